@@ -1,0 +1,30 @@
+-- Cases on an order or on a test, as functions. Assumes nothing.
+use Prim.Native.Nat.{ℕ, _≤_, _<_}
+use mathlib.Core.Path.{_≡_, refl}
+use mathlib.Core.Bool.{Bool, true, false}
+use mathlib.Core.Logic.{_⊎_, inl, inr}
+use native.Mathlib.Omega.{arith}
+use native.Mathlib.Decide.{decLe, ℕ-discrete}
+
+-- one of two values, by a test
+abbrev pub pick : {A : Type 0} → Bool → A → A → A
+pick true x y = x
+pick false x y = y
+
+-- both tests pass
+abbrev pub both : Bool → Bool → Bool
+both true b = b
+both false b = false
+
+-- a ≤ b or b < a
+pub split : {C : Type 0} (a b : ℕ) → (a ≤ b → C) → (b < a → C) → C
+split a b f g = elim (decLe a b) [ yes h ↦ f h | no h ↦ g (omega arith) ]
+
+-- a ≡ b or not
+pub same : {C : Type 0} (a b : ℕ) → (a ≡ b → C) → ((a ≡ b → ⊥) → C) → C
+same a b f g = elim (ℕ-discrete a b) [ yes h ↦ f h | no h ↦ g h ]
+
+-- a test passes or fails
+pub tested : {C : Type 0} (b : Bool) → (b ≡ true → C) → (b ≡ false → C) → C
+tested true f g = f refl
+tested false f g = g refl
