@@ -16,6 +16,19 @@ abbrev pub both : Bool → Bool → Bool
 both true b = b
 both false b = false
 
+-- one of the tests passes
+abbrev pub either : Bool → Bool → Bool
+either true b = true
+either false b = b
+
+pub either-true : (b : Bool) → either b true ≡ true
+either-true true = refl
+either-true false = refl
+
+pub either-false : (b : Bool) → either b false ≡ b
+either-false true = refl
+either-false false = refl
+
 -- a ≤ b or b < a
 pub split : {C : Type 0} (a b : ℕ) → (a ≤ b → C) → (b < a → C) → C
 split a b f g = elim (decLe a b) [ yes h ↦ f h | no h ↦ g (omega arith) ]

@@ -1,10 +1,11 @@
 -- A search: the first index below a bound at which a test passes. Assumes nothing.
 use Prim.Native.Nat.{ℕ, zero, suc, _+_, _≤_, _<_}
-use mathlib.Core.Path.{_≡_, refl, sym, _∙_, ap, subst}
+use mathlib.Core.Path.{_≡_, refl, sym, _∙_, ap, ap₂, subst}
 use mathlib.Core.Bool.{Bool, true, false}
 use native.Mathlib.Omega.{arith}
 use lib.Dec.{T, ltb}
-use Rattle.laws.specs.Choice.{tested, split}
+use borrow.Author.Tests.{lt-ltb, le-ltb, ltb-true, ltb-false}
+use Rattle.laws.specs.Choice.{tested, split, either}
 
 -- the first of the k indices from i on at which the test passes, or i + k where it passes at none
 abbrev pub firstFrom : (ℕ → Bool) → ℕ → ℕ → ℕ
@@ -88,3 +89,27 @@ module _ (p : ℕ → Bool) where
       let w = first-le k in
       split k (first p k) (λ l. omega arith)
       (λ l. absurd (clash (first-hit k l) (s .fails (first p k) (let v = s .within in omega arith))))
+
+  -- some index passes, by the one that does; none passes, by each that does not; and back
+  pub some-true : {k i : ℕ} → i < k → p i ≡ true → some p k ≡ true
+  some-true {k} {i} l e =
+      lt-ltb _ _ (split k (first p k) (λ h. absurd (clash e (first-miss k i (omega arith)))) (λ h. h))
+
+  pub some-false : {k : ℕ} → ((i : ℕ) → i < k → p i ≡ false) → some p k ≡ false
+  some-false {k} h = le-ltb _ _ (split k (first p k) (λ l. l) (λ l. absurd (clash (first-hit k l) (h (first p k) l))))
+
+  pub some-at : (k : ℕ) → some p k ≡ true → (i : ℕ) × (i < k) × (p i ≡ true)
+  some-at k e = let l = ltb-true (first p k) k e in (first p k, l, first-hit k l)
+
+  pub some-none : {k : ℕ} → some p k ≡ false → {i : ℕ} → i < k → p i ≡ false
+  some-none {k} e {i} l = first-miss k i (let h = ltb-false (first p k) k e in omega arith)
+
+  -- one index more
+  pub some-more : (k : ℕ) → some p (k + 1) ≡ either (some p k) (p k)
+  some-more k =
+      tested (some p k)
+      (λ e. let s = some-at k e in some-true {k = k + 1} (let l = s .1 in omega arith) (s .2) ∙ sym (ap (λ b. either b (p k)) e))
+      (λ e.
+      tested (p k) (λ f. some-true {k = k + 1} (omega arith) f ∙ sym (ap₂ either e f))
+      (λ f.
+      some-false (λ i (l : i < k + 1). split k i (λ m. let q : i ≡ k = omega arith in ap p q ∙ f) (λ m. some-none e m)) ∙ sym (ap₂ either e f)))

@@ -2,3 +2,4 @@
 pub mod Choice
 pub mod First
 pub mod Sum
+pub mod Marks

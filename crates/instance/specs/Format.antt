@@ -1,0 +1,44 @@
+-- The book of document 01, byte by byte. Assumes nothing.
+use Prim.Native.Nat.{ℕ, zero, suc, _+_, _*_}
+use mathlib.Core.List.{List}
+use lib.ListN.{getD}
+
+-- The largest n
+abbrev pub largest : ℕ
+largest = 64
+
+-- Byte k of the book, 0 past its end
+abbrev pub byte : List ℕ → ℕ → ℕ
+byte b k = getD b k 0
+
+-- Two bytes from k on, low byte first
+abbrev pub word : List ℕ → ℕ → ℕ
+word b k = byte b k + 256 * byte b (k + 1)
+
+-- n: how many students there are, and mentors
+abbrev pub people : List ℕ → ℕ
+people b = byte b 1
+
+-- The directory pair of list k, its offset and its length. The students' lists are 0 to n − 1, the mentors' n to 2 × n − 1
+unfoldable pub offset : List ℕ → ℕ → ℕ
+offset b k = word b (2 + 4 * k)
+
+unfoldable pub listLength : List ℕ → ℕ → ℕ
+listLength b k = word b (4 + 4 * k)
+
+-- Where the lists begin: after the directory
+abbrev pub listsStart : ℕ → ℕ
+listsStart n = 2 + 8 * n
+
+-- Where list k has to start: the first where the lists begin, each other where the one before ended
+unfoldable pub due : List ℕ → ℕ → ℕ
+due b zero = listsStart (people b)
+due b (suc k) = offset b k + listLength b k
+
+-- Entry j of list k
+unfoldable pub entry : List ℕ → ℕ → ℕ → ℕ
+entry b k j = byte b (offset b k + j)
+
+-- How many bytes a book of n students and n mentors has
+unfoldable pub size : ℕ → ℕ
+size n = listsStart n + 2 * (n * n)

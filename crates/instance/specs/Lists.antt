@@ -1,0 +1,34 @@
+-- Rules 6 and 7: strangers and repeats in lists. A list is a function from places to entries. Assumes nothing.
+use Prim.Native.Nat.{ℕ, _+_}
+use mathlib.Core.Bool.{Bool, true, false}
+use lib.Dec.{leb, ltb, eqb}
+use Rattle.laws.specs.Choice.{pick, either}
+use Rattle.laws.specs.First.{first, some}
+use Rattle.instance.specs.Verdict.{Verdict, fine, rule}
+
+-- Entry j is n or more
+abbrev pub stranger : ℕ → (ℕ → ℕ) → ℕ → Bool
+stranger n l j = leb n (l j)
+
+-- Entry j stands earlier in its list
+abbrev pub repeat : (ℕ → ℕ) → ℕ → Bool
+repeat l j = some (λ i. eqb (l i) (l j)) j
+
+-- Entry j breaks rule 6 or rule 7
+abbrev pub faulty : ℕ → (ℕ → ℕ) → ℕ → Bool
+faulty n l j = either (stranger n l j) (repeat l j)
+
+-- The place of the first faulty entry among the first `len`, or len
+unfoldable pub firstFaulty : ℕ → (ℕ → ℕ) → ℕ → ℕ
+firstFaulty n l len = first (faulty n l) len
+
+-- The first of the given number of lists that has a faulty entry, or that number. List k is e k, with len k entries
+unfoldable pub firstFaultyList : ℕ → (ℕ → ℕ → ℕ) → (ℕ → ℕ) → ℕ → ℕ
+firstFaultyList n e len lists = first (λ k. ltb (firstFaulty n (e k) (len k)) (len k)) lists
+
+-- Rules 6 and 7 over lists whose entries stand one a byte from start k on: list by list and place by place, 6 before 7 at one entry
+unfoldable pub checkLists : ℕ → (ℕ → ℕ → ℕ) → (ℕ → ℕ) → (ℕ → ℕ) → ℕ → Verdict
+checkLists n e len start lists =
+    let k = firstFaultyList n e len lists in
+    let j = firstFaulty n (e k) (len k) in
+    rule (ltb k lists) (pick (stranger n (e k) j) 6 7) (start k + j) fine
