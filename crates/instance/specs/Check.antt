@@ -1,5 +1,6 @@
 -- The check of a book: document 01's table, rules 1 to 7, in the order in which they are tried. Assumes nothing.
-use Prim.Native.Nat.{ℕ, _+_, _*_}
+use Prim.Native.Nat.{ℕ, _+_, _*_, _≤_}
+use mathlib.Core.Path.{_≡_}
 use mathlib.Core.List.{List}
 use mathlib.Core.Bool.{Bool, not}
 use lib.ListN.{length}
@@ -28,3 +29,14 @@ checkBook b =
     (rule (ltb (size (people b)) (length b)) 4 (size (people b))
     (rule (ltb (firstMisfiled b) (2 * people b)) 5 (2 + 4 * firstMisfiled b)
     (checkLists (people b) (entry b) (listLength b) (offset b) (2 * people b)))))))
+
+-- What is known of a book once rules 1 to 4 are passed
+pub record Sized (b : List ℕ) (n : ℕ) : Type 0 where
+  pub number : n ≡ people b
+  pub few : n ≤ largest
+  pub long : length b ≡ size n
+
+-- and once rule 5 is passed too
+pub record Filed (b : List ℕ) (n : ℕ) : Type 0 where
+  pub sized : Sized b n
+  pub filed : firstMisfiled b ≡ 2 * n

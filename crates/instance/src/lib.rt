@@ -1,9 +1,20 @@
-// The format of an instance, document 01's book: reading, checking and writing it.
+// The format of an instance, document 01's book: the check (rules 1 to 7), one person's list, the writer,
+// and the record whose tables the other crates work on.
+//
+// Contracts cite specs/, which follows document 01 paragraph by paragraph. No public function has a `requires`.
+mod book;
+mod field;
+mod lists;
+
+pub use book::check;
+
+// A broken rule of document 01's table: its number, and the place given.
 pub struct Refusal {
     pub number: u8,
     pub place: usize,
 }
 
+// The answer of a check.
 pub enum Checked {
     Fine,
     Refused(Refusal),

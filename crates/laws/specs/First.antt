@@ -113,3 +113,13 @@ module _ (p : ℕ → Bool) where
       tested (p k) (λ f. some-true {k = k + 1} (omega arith) f ∙ sym (ap₂ either e f))
       (λ f.
       some-false (λ i (l : i < k + 1). split k i (λ m. let q : i ≡ k = omega arith in ap p q ∙ f) (λ m. some-none e m)) ∙ sym (ap₂ either e f)))
+
+-- tests that agree below the bound have one first index
+pub first-cong : {p q : ℕ → Bool} {k : ℕ} → ((i : ℕ) → i < k → p i ≡ q i) → first p k ≡ first q k
+first-cong {p} {q} {k} h =
+    split k (first q k) (λ l. scan-end p {k = k} {i = k} (record { within = omega arith; fails = λ j m. h j m ∙ first-miss q k j (omega arith) }) (omega arith) ∙ (let m = first-le q k in omega arith))
+    (λ l. scan-hit p (record { within = omega arith; fails = λ j m. h j (omega arith) ∙ first-miss q k j m }) l (h (first q k) l ∙ first-hit q k l))
+
+-- and so has some index that passes
+pub some-cong : {p q : ℕ → Bool} {k : ℕ} → ((i : ℕ) → i < k → p i ≡ q i) → some p k ≡ some q k
+some-cong {p} {q} {k} h = ap (λ (i : ℕ). ltb i k) (first-cong h)

@@ -1,0 +1,110 @@
+// The check of a book.
+use crate::field::{length_of, offset_of, size_of, wide};
+use crate::lists::first_faulty;
+use crate::{Checked, Refusal};
+ghost use mathlib.Core.Path.{_≡_};
+ghost use Prim.Native.Nat.{_+_, _*_, _≤_};
+ghost use lib.ListN.{length};
+ghost use Rattle.instance.specs.Verdict.{refused, verdictOf};
+ghost use Rattle.instance.specs.Format.{people, offset, listLength, entry, size};
+ghost use Rattle.instance.specs.Lists.{firstFaultyList, checkLists};
+ghost use Rattle.instance.specs.Check.{firstMisfiled, checkBook, Sized, Filed};
+
+// A refusal by its number and place.
+pub(crate) fn refuse(number: u8, place: usize) -> Checked
+    ensures { λ r. ⌜ verdictOf r ≡ refused number place ⌝ }
+{
+    Checked::Refused(Refusal { number, place })
+}
+
+// Says whether a book is well formed, or the first rule that it breaks and where.
+pub fn check(book: &[u8]) -> Checked
+    ensures { λ r. ⌜ verdictOf r ≡ checkBook (now (book .entry)) ⌝ }
+{
+    let len = book.len();
+    if len < 2 {
+        return refuse(1, len);
+    }
+    if book[0] != 1 {
+        return refuse(2, 0);
+    }
+    let n = wide(book[1]);
+    if 64 < n {
+        return refuse(3, 1);
+    }
+    let size = size_of(n);
+    if len < size {
+        return refuse(1, len);
+    }
+    if size < len {
+        return refuse(4, size);
+    }
+    let pair = first_misfiled(book, n);
+    if pair < 2 * n {
+        return refuse(5, 2 + 4 * pair);
+    }
+    check_lists(book, n)
+}
+
+// The first directory pair that is not as it has to be, or 2 * n: a list starts where the one before ended and has n entries.
+fn first_misfiled(book: &[u8], n: usize) -> usize
+    requires { ⌜ Sized (now book) n ⌝ }
+    ensures { λ r. ⌜ r ≡ firstMisfiled (now (book .entry)) ⌝ }
+{
+    let mut due = 2 + 8 * n;
+    let mut k = 0;
+    while k < 2 * n {
+        let at = offset_of(book, k);
+        let len = length_of(book, k);
+        if at != due {
+            return k;
+        }
+        if len != n {
+            return k;
+        }
+        due = at + len;
+        k += 1;
+    }
+    k
+}
+
+// The first list with an entry that breaks rule 6 or 7, or 2 * n.
+fn first_faulty_list(book: &[u8], n: usize) -> usize
+    requires { ⌜ Filed (now book) n ⌝ }
+    ensures { λ r. ⌜ r ≡ firstFaultyList n (entry (now (book .entry))) (listLength (now (book .entry))) (2 * n) ⌝ }
+{
+    let mut k = 0;
+    while k < 2 * n {
+        let at = offset_of(book, k);
+        let len = length_of(book, k);
+        let end = at + len;
+        let j = first_faulty(&book[at..end], n);
+        if j < len {
+            return k;
+        }
+        k += 1;
+    }
+    k
+}
+
+// Rules 6 and 7: the first list that breaks one, and in it the first entry.
+fn check_lists(book: &[u8], n: usize) -> Checked
+    requires { ⌜ Filed (now book) n ⌝ }
+    ensures { λ r. ⌜ verdictOf r ≡ checkLists n (entry (now (book .entry))) (listLength (now (book .entry))) (offset (now (book .entry))) (2 * n) ⌝ }
+{
+    let k = first_faulty_list(book, n);
+    if 2 * n <= k {
+        return Checked::Fine;
+    }
+    let at = offset_of(book, k);
+    let len = length_of(book, k);
+    let end = at + len;
+    let j = first_faulty(&book[at..end], n);
+    if len <= j {
+        return Checked::Fine;
+    }
+    if n <= wide(book[at + j]) {
+        return refuse(6, at + j);
+    }
+    refuse(7, at + j)
+}

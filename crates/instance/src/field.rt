@@ -1,0 +1,46 @@
+// Reads of single fields of a book.
+ghost use mathlib.Core.Path.{_≡_};
+ghost use Prim.Native.Nat.{_+_, _*_, _<_};
+ghost use lib.ListN.{length};
+ghost use Rattle.instance.specs.Format.{word, offset, listLength, size};
+
+// A byte as a number.
+pub(crate) fn wide(x: u8) -> usize
+    ensures { λ r. ⌜ (r ≡ x) × (r < 256) ⌝ }
+{
+    x as usize
+}
+
+// The two bytes at `at`, low byte first.
+pub(crate) fn word_at(b: &[u8], at: usize) -> usize
+    requires { ⌜ at + 1 < length (now b) ⌝ }
+    ensures { λ r. ⌜ (r ≡ word (now (b .entry)) at) × (r < 65536) ⌝ }
+{
+    let low = wide(b[at]);
+    let high = wide(b[at + 1]);
+    low + 256 * high
+}
+
+// The offset of list k, from the directory.
+pub(crate) fn offset_of(b: &[u8], k: usize) -> usize
+    requires { ⌜ 5 + 4 * k < length (now b) ⌝ }
+    ensures { λ r. ⌜ (r ≡ offset (now (b .entry)) k) × (r < 65536) ⌝ }
+{
+    word_at(b, 2 + 4 * k)
+}
+
+// The length of list k, from the directory.
+pub(crate) fn length_of(b: &[u8], k: usize) -> usize
+    requires { ⌜ 5 + 4 * k < length (now b) ⌝ }
+    ensures { λ r. ⌜ (r ≡ listLength (now (b .entry)) k) × (r < 65536) ⌝ }
+{
+    word_at(b, 4 + 4 * k)
+}
+
+// How many bytes a book of n men and n women has.
+pub(crate) fn size_of(n: usize) -> usize
+    requires { ⌜ n < 256 ⌝ }
+    ensures { λ r. ⌜ r ≡ size n ⌝ }
+{
+    2 + 8 * n + 2 * (n * n)
+}
