@@ -1,0 +1,107 @@
+/* Stable placements and their repairs: the C interface of libplacement.a.
+ *
+ * A book is the encoded preference lists of n students and n mentors, n from 0 to 64. A matching is n bytes:
+ * byte i is the mentor of student i. A byte slice is passed as a pointer and a length; a null pointer goes with
+ * length 0 only. Result buffers may not overlap each other or an input. No function keeps a pointer, allocates,
+ * or touches anything but the memory that it is lent.
+ *
+ * Every call answers with a struct placement_reply. `number` is 0, or the number of the first rule that the
+ * input breaks, in the order given at each function; then `place` (and for rule 10 `second`) says where, every
+ * other field is 0, and no byte of a result buffer has been written. On success nothing past the result is written.
+ *
+ *   No.  word       when                                                          place
+ *    1   short      a book under 2 bytes, or under its size                        bytes given
+ *    2   edition    byte 0 is not 1                                                0
+ *    3   crowd      n over 64                                                      1
+ *    4   overlong   bytes past the size                                            size
+ *    5   directory  a directory pair is not as it has to be                        first byte of the pair
+ *    6   stranger   a list entry is n or more                                      that byte
+ *    7   repeat     an entry stands earlier in its list                            that byte
+ *    8   length     the matching is not n bytes                                    0
+ *    9   clash      a mentor is n or more, or used by an earlier byte              first such byte
+ *   10   unstable   a pair blocks                                                  lowest blocking student;
+ *                                                                                  second: his best-ranked blocking mentor
+ *   11   unknown    no student, mentor or rotation has the number                  0
+ *   12   apart      the two are not together                                       0
+ *   13   one pair   the request is not two bytes, student then mentor              0
+ *   14   sheet      a result buffer is too short                                   0
+ *   15   marks      the set has a wrong length or a byte over 1                    0
+ *   16   open       the set is not closed                                          0
+ */
+#ifndef PLACEMENT_H
+#define PLACEMENT_H
+
+#include <stddef.h>
+#include <stdint.h>
+
+#ifdef __cplusplus
+extern "C" {
+#endif
+
+struct placement_reply {
+    uint32_t number; /* 0, or the rule that is broken */
+    uint32_t place;  /* its place */
+    uint32_t second; /* the mentor of rule 10 */
+    uint32_t letter; /* 'U', 'D' or 'F' of a repair, else 0 */
+    uint32_t value;  /* the result, as each function says */
+};
+
+/* Checks a book: 1 to 7 ("under 2 bytes", then 2, 3, 1, 4, 5, then list bytes from the first, 6 before 7 at one byte).
+ * value: n. */
+struct placement_reply placement_check_book(const uint8_t *book, size_t book_len);
+
+/* value: the bytes of a book of n students, 2 + 8n + 2n^2. Refused: 3 (n over 64, place 1). */
+struct placement_reply placement_book_size(size_t n);
+
+/* Writes the book of n and 2n^2 list bytes, students' lists first, best first, one byte an entry.
+ * Refused: 3; 1 and 4 against 2n^2; 6 and 7 (places from the first list byte); 14. value: bytes written. */
+struct placement_reply placement_write_book(size_t n, const uint8_t *lists, size_t lists_len, uint8_t *out, size_t out_len);
+
+/* One student's list, and one mentor's: place is the offset of the list in the book, value its number of bytes.
+ * Refused: the book, then 11. */
+struct placement_reply placement_student_list(const uint8_t *book, size_t book_len, uint8_t student);
+struct placement_reply placement_mentor_list(const uint8_t *book, size_t book_len, uint8_t mentor);
+
+/* Says whether a matching is stable. Refused: the book, then 8, 9, 10. value: 0. */
+struct placement_reply placement_check_matching(const uint8_t *book, size_t book_len, const uint8_t *matching, size_t matching_len);
+
+/* The student-best and the mentor-best matching, n bytes to out. Refused: the book, then 14. value: n. */
+struct placement_reply placement_student_best(const uint8_t *book, size_t book_len, uint8_t *out, size_t out_len);
+struct placement_reply placement_mentor_best(const uint8_t *book, size_t book_len, uint8_t *out, size_t out_len);
+
+/* The repair of one pair. The request is two bytes, student then mentor. letter: 'U' repair up, 'D' repair down,
+ * 'F' the pair is fixed; value: the distance (0 for 'F'). 'U' and 'D' write n bytes of the repaired matching to out
+ * and n signed bytes to gains: old place less new, above zero is better. 'F' writes neither.
+ * Both buffers must hold n entries in every case. Refused: the book, then 8, 9, 10, then 13, 11, 12, then 14. */
+struct placement_reply placement_repair(const uint8_t *book, size_t book_len, const uint8_t *matching, size_t matching_len,
+                                        const uint8_t *request, size_t request_len, uint8_t *out, size_t out_len,
+                                        int8_t *gains, size_t gains_len);
+
+/* value: the grade of a stable matching. Refused: the book, then 8, 9, 10. */
+struct placement_reply placement_grade(const uint8_t *book, size_t book_len, const uint8_t *matching, size_t matching_len);
+
+/* The list of rotations, in order of number: each as its number of pairs and then student and mentor bytes.
+ * value: how many rotations. Refused: the book, then 14 (out must hold the whole list; 2 bytes a pair and 1 a rotation). */
+struct placement_reply placement_rotations(const uint8_t *book, size_t book_len, uint8_t *out, size_t out_len);
+
+/* value: 1 if rotation `first` precedes rotation `second`, else 0. Refused: the book, then 11. */
+struct placement_reply placement_precedes(const uint8_t *book, size_t book_len, size_t first, size_t second);
+
+/* The matching of a closed set, one byte 0 or 1 a rotation; n bytes to out. Refused: the book, then 15, 16, 14. value: n. */
+struct placement_reply placement_set_to_matching(const uint8_t *book, size_t book_len, const uint8_t *set, size_t set_len,
+                                                 uint8_t *out, size_t out_len);
+
+/* The closed set of a stable matching, one byte a rotation to out. Refused: the book, then 8, 9, 10, then 14.
+ * value: how many rotations. */
+struct placement_reply placement_matching_to_set(const uint8_t *book, size_t book_len, const uint8_t *matching, size_t matching_len,
+                                                 uint8_t *out, size_t out_len);
+
+/* The sheet of a book with a matching after it, as the sheet program prints it (also `refused N`), to out.
+ * value: bytes written. Refused: 14 only; 1,024 bytes are always enough. */
+struct placement_reply placement_sheet(const uint8_t *input, size_t input_len, uint8_t *out, size_t out_len);
+
+#ifdef __cplusplus
+}
+#endif
+
+#endif
