@@ -1,7 +1,11 @@
 // The check of a book.
-use crate::field::{length_of, offset_of, size_of, wide};
+use crate::Checked;
+use crate::Refusal;
+use crate::field::length_of;
+use crate::field::offset_of;
+use crate::field::size_of;
+use crate::field::wide;
 use crate::lists::first_faulty;
-use crate::{Checked, Refusal};
 ghost use mathlib.Core.Path.{_≡_};
 ghost use Prim.Native.Nat.{_+_, _*_, _≤_};
 ghost use lib.ListN.{length};

@@ -1,5 +1,11 @@
 -- Numbers and lists, with no word of matchings: what several crates cite. Assumes nothing.
 pub mod Choice
+pub mod Both
 pub mod First
-pub mod Sum
+pub mod Every
+pub mod Bounded
 pub mod Marks
+pub mod Pigeon
+pub mod Sum
+pub mod SumLaws
+pub mod Largest

@@ -2,6 +2,8 @@
 -- Lists may be partial and the sides of different sizes; complete lists are the case that everybody is listed. Assumes nothing.
 use Prim.Native.Nat.{ℕ, _<_}
 use mathlib.Core.Path.{_≡_}
+use lib.Dec.{eqb}
+use Rattle.laws.specs.First.{first}
 
 -- One side: how many members it has, how long the list of member i is, who stands at place k of that list,
 -- and the place of w on it. A place of len i or more says that i does not list w.
@@ -10,6 +12,10 @@ pub record Side : Type 0 where
   pub len : ℕ → ℕ
   pub at : ℕ → ℕ → ℕ
   pub place : ℕ → ℕ → ℕ
+
+-- A side by its lists alone: the place of w on i's list is where she first stands there, or the list's length
+abbrev pub sideFrom : ℕ → (ℕ → ℕ) → (ℕ → ℕ → ℕ) → Side
+sideFrom size len at = record { size = size; len = len; at = at; place = λ i w. first (λ k. eqb (at i k) w) (len i) }
 
 pub record Market : Type 0 where
   pub proposers : Side

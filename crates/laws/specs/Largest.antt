@@ -1,0 +1,19 @@
+-- The largest value of a function at the numbers below a bound. Assumes nothing.
+use Prim.Native.Nat.{ℕ, zero, suc, max, _≤_, _<_}
+use native.Mathlib.Omega.{arith}
+use Rattle.laws.specs.Choice.{same}
+
+-- the largest of f 0, …, f (n - 1), or 0 where n is 0
+abbrev pub largest : ℕ → (ℕ → ℕ) → ℕ
+largest zero f = 0
+largest (suc n) f = max (largest n f) (f n)
+
+-- each value is at most the largest
+pub largest-ge : (n : ℕ) (f : ℕ → ℕ) (i : ℕ) → i < n → f i ≤ largest n f
+largest-ge zero f i u = absurd (omega arith)
+largest-ge (suc n) f i u = same i n (λ e. rw e (omega arith)) (λ ne. omega (arith, largest-ge n f i (omega arith)))
+
+-- what bounds each value bounds the largest
+pub largest-le : (n : ℕ) (f : ℕ → ℕ) (g : ℕ) → ((i : ℕ) → i < n → f i ≤ g) → largest n f ≤ g
+largest-le zero f g h = omega arith
+largest-le (suc n) f g h = omega (arith, largest-le n f g (λ i u. h i (omega arith)), h n (omega arith))

@@ -1,0 +1,39 @@
+-- Laws of sums: order, equality, one changed term, and sums over the numbers that pass a test. Assumes nothing.
+use Prim.Native.Nat.{ℕ, zero, suc, _+_, _≤_, _<_}
+use mathlib.Core.Path.{_≡_, refl}
+use mathlib.Core.Bool.{Bool, true}
+use native.Mathlib.Omega.{arith}
+use Rattle.laws.specs.Choice.{pick, same, tested}
+use Rattle.laws.specs.Sum.{sum}
+
+-- larger terms, larger sum
+pub sum-le : (n : ℕ) (f g : ℕ → ℕ) → ((i : ℕ) → i < n → f i ≤ g i) → sum n f ≤ sum n g
+sum-le zero f g h = omega arith
+sum-le (suc n) f g h = omega (arith, sum-le n f g (λ i u. h i (omega arith)), h n (omega arith))
+
+-- equal terms, equal sum
+pub sum-same : (n : ℕ) (f g : ℕ → ℕ) → ((i : ℕ) → i < n → f i ≡ g i) → sum n f ≡ sum n g
+sum-same zero f g h = refl
+sum-same (suc n) f g h = omega (arith, sum-same n f g (λ i u. h i (omega arith)), h n (omega arith))
+
+-- no term is larger and the sum is no smaller: the terms are equal
+pub sum-tight : (n : ℕ) (f g : ℕ → ℕ) → ((i : ℕ) → i < n → f i ≤ g i) → sum n g ≤ sum n f → (i : ℕ) → i < n → f i ≡ g i
+sum-tight zero f g h le i u = absurd (omega arith)
+sum-tight (suc n) f g h le i u =
+    let a = sum-le n f g (λ j v. h j (omega arith)) in
+    let b = h n (omega arith) in
+    same i n (λ e. rw e (omega arith)) (λ ne. sum-tight n f g (λ j v. h j (omega arith)) (omega arith) i (omega arith))
+
+-- one term grows by c, the others stay: the sum grows by c
+pub sum-grown : (n : ℕ) (f g : ℕ → ℕ) (i c : ℕ) → i < n → g i ≡ f i + c → ((l : ℕ) → (l ≡ i → ⊥) → g l ≡ f l) → sum n g ≡ sum n f + c
+sum-grown zero f g i c u e o = absurd (omega arith)
+sum-grown (suc n) f g i c u e o =
+    same n i
+    (λ q. let a : g n ≡ f n + c = rw q e in omega (arith, sum-same n g f (λ l v. o l (omega arith))))
+    (λ q. omega (arith, sum-grown n f g i c (omega arith) e o, o n q))
+
+-- a sum over the numbers that pass a test grows with the numbers that pass
+pub sum-passed : (n : ℕ) (p q : ℕ → Bool) (c : ℕ → ℕ) → ((i : ℕ) → i < n → p i ≡ true → q i ≡ true) → sum n (λ i. pick (p i) (c i) 0) ≤ sum n (λ i. pick (q i) (c i) 0)
+sum-passed n p q c h =
+    sum-le n (λ i. pick (p i) (c i) 0) (λ i. pick (q i) (c i) 0)
+    (λ i (u : i < n). tested {C = pick (p i) (c i) 0 ≤ pick (q i) (c i) 0} (p i) (λ e. rw (e, h i u e) (omega arith)) (λ e. rw e (omega arith)))
