@@ -10,6 +10,7 @@ pub mod Mirror
 pub mod Lattice
 pub mod LeastLaws
 pub mod Optimal
+pub mod StableTest
 pub mod Decide
 pub mod Matching
 pub mod MatchingLaws
