@@ -3,7 +3,6 @@ pub mod Choice
 pub mod Both
 pub mod First
 pub mod Every
-pub mod Bounded
 pub mod Marks
 pub mod Pigeon
 pub mod Sum

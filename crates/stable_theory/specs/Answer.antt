@@ -3,21 +3,37 @@
 -- largest nearness of an answer less the asking proposer's own weight, 0 where all are fixed. Assumes nothing.
 use Prim.Native.Nat.{ℕ, _-_, _≤_, _<_}
 use mathlib.Core.Path.{_≡_}
-use mathlib.Core.Bool.{not}
-use lib.Dec.{eqb}
+use mathlib.Core.Bool.{Bool, true, false, not}
+use lib.Dec.{eqb, ltb, leb}
 use Rattle.laws.specs.Choice.{pick, both}
 use Rattle.laws.specs.Sum.{sum}
 use Rattle.laws.specs.Largest.{largest}
 use Rattle.stable_theory.specs.Market.{Market}
 use Rattle.stable_theory.specs.Vector.{Holds}
 use Rattle.stable_theory.specs.Holding.{Same}
-use Rattle.stable_theory.specs.Repair.{Parts, Fixed, IsDown, IsUp, moved, weight}
+use Rattle.stable_theory.specs.Repair.{Parts, Fixed, IsDown, IsUp, down, up, moved, weight}
+use Rattle.stable_theory.specs.StableTest.{isStable}
 
 -- The letters of the sheet, with the vector of the repair
 pub data Answer : Type 0 where
   U : (ℕ → ℕ) → Answer
   D : (ℕ → ℕ) → Answer
   F : Answer
+
+-- The nearer of two repairs that there may be: up where both are as near
+unfoldable pub nearer : Bool → Bool → Bool → (ℕ → ℕ) → (ℕ → ℕ) → Answer
+nearer true true true u d = U u
+nearer true true false u d = D d
+nearer true false no-further u d = U u
+nearer false true no-further u d = D d
+nearer false false no-further u d = F
+
+-- The answer for the pair of s, worked out: a repair is there if the vector is stable. Who has no receiver has no pair, and F stands for that
+unfoldable pub answerOf : Market → (ℕ → ℕ) → (ℕ → ℕ) → ℕ → Answer
+answerOf I c p s =
+    let u = up I p s in
+    let d = down I p s in
+    pick (ltb (p s) (I .proposers .len s)) (nearer (isStable I u) (isStable I d) (leb (weight I c p u) (weight I c p d)) u d) F
 
 -- Which answer is the right one for the pair of s
 pub data Answers (I : Market) (c p : ℕ → ℕ) (s : ℕ) : Answer → Type 0 where

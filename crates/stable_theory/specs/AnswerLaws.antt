@@ -1,16 +1,21 @@
 -- Demand 3 for vectors: the answer is fixed exactly when every stable vector holds the pair, and otherwise a stable vector
 -- without the pair that moves least; there is one answer. Assumes nothing.
 use Prim.Native.Nat.{ℕ, _<_}
+use mathlib.Core.Path.{_≡_, refl}
 use mathlib.Core.Logic.{_↔_}
+use mathlib.Core.Bool.{Bool, true, false}
 use native.Mathlib.Omega.{arith}
+use lib.Dec.{leb}
+use borrow.Author.Tests.{lt-ltb, leb-true, leb-false}
 use Rattle.laws.specs.Choice.{split}
+use Rattle.laws.specs.First.{clash}
 use Rattle.stable_theory.specs.Market.{Market, Proper}
 use Rattle.stable_theory.specs.Vector.{Holds, Stable}
-use Rattle.stable_theory.specs.Decide.{stable?}
-use Rattle.stable_theory.specs.Repair.{Parts, Fixed, down, up, weight}
-use Rattle.stable_theory.specs.RepairLaws.{down-is, down-unique, up-is, up-unique}
+use Rattle.stable_theory.specs.StableTest.{isStable, test-stable, stable-test}
+use Rattle.stable_theory.specs.Repair.{Parts, Fixed, IsDown, IsUp, down, up, weight}
+use Rattle.stable_theory.specs.RepairLaws.{down-is, down-settled, down-unique, up-is, up-unique, up-within}
 use Rattle.stable_theory.specs.Moves.{weight-same, down-there, up-there, down-least, up-least, fixed-iff, down-none, up-none}
-use Rattle.stable_theory.specs.Answer.{Answer, U, D, F, Answers, nearer-up, nearer-down, neither, SameAnswer, same-up, same-down, same-fixed, Right}
+use Rattle.stable_theory.specs.Answer.{Answer, U, D, F, nearer, answerOf, Answers, nearer-up, nearer-down, neither, SameAnswer, same-up, same-down, same-fixed, Right}
 
 module _ {I : Market} (M : Proper I) (c : ℕ → ℕ) {p : ℕ → ℕ} {s w : ℕ} (P : Stable I p) (h : Holds I p s w) where
   -- s is better off or worse off in k
@@ -40,20 +45,40 @@ module _ {I : Market} (M : Proper I) (c : ℕ → ℕ) {p : ℕ → ℕ} {s w : 
   answers-fixed =
       (λ a. answer-right a, λ f. neither (λ u A. A .parts .without (f u (A .parts .stable))) (λ d A. A .parts .without (f d (A .parts .stable))))
 
-  -- there is an answer
-  pub answer : (a : Answer) × Answers I c p s a
-  answer = choose (stable? M (up I p s)) (stable? M (down I p s))
+  -- the answer that is worked out is the right one
+  pub answer-of : Answers I c p s (answerOf I c p s)
+  unfolding answerOf nearer
+  answer-of =
+      rw (lt-ltb (p s) (I .proposers .len s) (omega (arith, h .is, h .pair .lists))) (choose (isStable I u) (isStable I d) (leb (weight I c p u) (weight I c p d)) refl refl refl)
     where
-      choose : Dec (Stable I (up I p s)) → Dec (Stable I (down I p s)) → (a : Answer) × Answers I c p s a
-      choose (yes x) (yes y) =
-          let A = up-is M P h x in
-          let B = down-is M P h y in
-          split (weight I c p (up I p s)) (weight I c p (down I p s))
-          (λ l. (U (up I p s), nearer-up A (λ d X. omega (arith, weight-same I c p (down I p s) d (down-unique B X)))))
-          (λ l. (D (down I p s), nearer-down B (λ u X. omega (arith, weight-same I c p (up I p s) u (up-unique A X)))))
-      choose (yes x) (no y) = (U (up I p s), nearer-up (up-is M P h x) (λ d X. absurd (down-none M P h y X)))
-      choose (no x) (yes y) = (D (down I p s), nearer-down (down-is M P h y) (λ u X. absurd (up-none M P h x X)))
-      choose (no x) (no y) = (F, neither (λ u X. up-none M P h x X) (λ d X. down-none M P h y X))
+      u : ℕ → ℕ
+      u = up I p s
+
+      d : ℕ → ℕ
+      d = down I p s
+
+      up-fine : isStable I u ≡ true → IsUp I p s u
+      up-fine e = up-is M P h (test-stable M (up-within M P h) e)
+
+      down-fine : isStable I d ≡ true → IsDown I p s d
+      down-fine e = down-is M P h (test-stable M (down-settled M P h .within) e)
+
+      no-up : isStable I u ≡ false → (k : ℕ → ℕ) → IsUp I p s k → ⊥
+      no-up e k X = up-none M P h (λ S. clash (stable-test M S) e) X
+
+      no-down : isStable I d ≡ false → (k : ℕ → ℕ) → IsDown I p s k → ⊥
+      no-down e k X = down-none M P h (λ S. clash (stable-test M S) e) X
+
+      choose : (x y z : Bool) → isStable I u ≡ x → isStable I d ≡ y → leb (weight I c p u) (weight I c p d) ≡ z → Answers I c p s (nearer x y z u d)
+      choose true true true ex ey ez =
+          let B = down-fine ey in
+          nearer-up (up-fine ex) (λ k X. omega (arith, leb-true (weight I c p u) (weight I c p d) ez, weight-same I c p d k (down-unique B X)))
+      choose true true false ex ey ez =
+          let A = up-fine ex in
+          nearer-down (down-fine ey) (λ k X. omega (arith, leb-false (weight I c p u) (weight I c p d) ez, weight-same I c p u k (up-unique A X)))
+      choose true false z ex ey ez = nearer-up (up-fine ex) (λ k X. absurd (no-down ey k X))
+      choose false true z ex ey ez = nearer-down (down-fine ey) (λ k X. absurd (no-up ex k X))
+      choose false false z ex ey ez = neither (no-up ex) (no-down ey)
 
 -- there is one answer at most
 pub answer-unique : {I : Market} {c p : ℕ → ℕ} {s : ℕ} {a b : Answer} → Answers I c p s a → Answers I c p s b → SameAnswer I a b

@@ -11,7 +11,6 @@ pub mod Lattice
 pub mod LeastLaws
 pub mod Optimal
 pub mod StableTest
-pub mod Decide
 pub mod Matching
 pub mod MatchingLaws
 pub mod Perfect

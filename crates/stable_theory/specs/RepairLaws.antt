@@ -86,6 +86,10 @@ module _ {I : Market} (M : Proper I) {p : ℕ → ℕ} {s w : ℕ} (P : Stable I
   unfolding up
   up-mirror = rw (held-at M h) (mirror-back (mirror-of (exchanged M) (down-settled (exchanged M) other (sides .there h))))
 
+  -- `up` is within the lists
+  pub up-within : Within I (up I p s)
+  up-within = up-mirror .left
+
   -- where `up` is stable, it is the repair up
   pub up-is : Stable I (up I p s) → IsUp I p s (up I p s)
   up-is U = down-across M P sides up-mirror h (down-is (exchanged M) other (sides .there h) (stable-across M up-mirror U))

@@ -5,7 +5,7 @@ use mathlib.Core.Path.{_≡_, refl}
 use mathlib.Core.Bool.{not}
 use native.Mathlib.Omega.{arith}
 use lib.Dec.{eqb}
-use borrow.Author.Tests.{eq-eqb, ne-eqb}
+use borrow.Author.Tests.{eq-eqb, ne-eqb, le-ltb}
 use Rattle.laws.specs.Choice.{pick, both, split}
 use Rattle.laws.specs.SumLaws.{sum-grown}
 use Rattle.laws.specs.Largest.{largest-ge, largest-le}
@@ -14,8 +14,8 @@ use Rattle.stable_theory.specs.Vector.{Holds, Stable}
 use Rattle.stable_theory.specs.Holding.{hold-at}
 use Rattle.stable_theory.specs.Repair.{Parts, Fixed, moved, weight}
 use Rattle.stable_theory.specs.Moves.{moved-moved}
-use Rattle.stable_theory.specs.Answer.{Answer, U, D, F, Answers, Nearest, Right, besides, cost, robustness, AllAnswers, Robust}
-use Rattle.stable_theory.specs.AnswerLaws.{answer, answer-right}
+use Rattle.stable_theory.specs.Answer.{Answer, U, D, F, answerOf, Answers, Nearest, Right, besides, cost, robustness, AllAnswers, Robust}
+use Rattle.stable_theory.specs.AnswerLaws.{answer-of, answer-right}
 
 -- without the pair, s is moved: the weight of those moved is that of the others and his own
 pub weight-besides : {I : Market} (c p k : ℕ → ℕ) {s : ℕ} → s < I .proposers .size → Parts I p s k → weight I c p k ≡ besides I c p s k + c s
@@ -50,23 +50,11 @@ module _ {I : Market} (M : Proper I) (c : ℕ → ℕ) {p : ℕ → ℕ} {s w : 
   answer-least g (D d) R B = nearest-least g R B
   answer-least g F R B = omega arith
 
--- there are answers for all
-module _ {I : Market} (M : Proper I) (c : ℕ → ℕ) {p : ℕ → ℕ} (P : Stable I p) where
-  -- what is asked of the answer for s
-  abbrev Asked : ℕ → Answer → Type 0
-  Asked s a =
-      ((w : ℕ) → Holds I p s w → Answers I c p s a) × (s < I .proposers .size → I .proposers .len s ≤ p s → a ≡ F)
-
-  -- the answer of a pair, or F for one who has none
-  asked : (s : ℕ) → (a : Answer) × Asked s a
-  asked s =
-      split (I .proposers .size) s (λ l. (F, ((λ w h. absurd (omega (arith, h .pair .proposer))), λ u k. refl)))
-      (λ u. split (I .proposers .len s) (p s) (λ l. (F, ((λ w h. absurd (omega (arith, h .is, h .pair .lists))), λ v k. refl)))
-      (λ l. let x = answer M c P (hold-at M p u l) in (x .0, ((λ w h. x .1), λ v k. absurd (omega arith)))))
-
-  -- so the grade is defined
-  pub all-answers : (a : ℕ → Answer) × AllAnswers I c p a
-  all-answers = (λ s. asked s .0, record { asked = λ {s} {w} h. asked s .1 .0 w h; unplaced = λ {s} u l. asked s .1 .1 u l })
+-- the answers that are worked out are answers for all, so the grade is defined
+pub all-answers : {I : Market} (M : Proper I) (c : ℕ → ℕ) {p : ℕ → ℕ} → Stable I p → AllAnswers I c p (answerOf I c p)
+unfolding answerOf
+all-answers {I} M c {p} P =
+    record { asked = λ {s} {w} h. answer-of M c P h; unplaced = λ {s} u l. rw (le-ltb (p s) (I .proposers .len s) l) }
 
 module _ {I : Market} (M : Proper I) (c : ℕ → ℕ) {p : ℕ → ℕ} (P : Stable I p) {a : ℕ → Answer} (A : AllAnswers I c p a) where
   -- the grade has the property
