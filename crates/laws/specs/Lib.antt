@@ -5,6 +5,9 @@ pub mod First
 pub mod Every
 pub mod Marks
 pub mod Pigeon
+pub mod Cycle
 pub mod Sum
 pub mod SumLaws
+pub mod Rising
 pub mod Largest
+pub mod Values

@@ -4,6 +4,7 @@ use Prim.Native.Nat.{ℕ, zero, suc}
 use mathlib.Core.Path.{_≡_, refl}
 use mathlib.Core.List.{List, [], _∷_}
 use lib.ListN.{getD}
+use Rattle.laws.specs.Values.{values}
 use Rattle.stable_theory.specs.Market.{Side, Market, Ranked, Mutual, Proper, Complete}
 use Rattle.stable_theory.specs.Vector.{Stable}
 use Rattle.stable_theory.specs.Least.{least, settle, onward, beaten, outranks}
@@ -64,11 +65,6 @@ table1 = fromLists men women
 pub table1-proper : Proper table1
 unfolding table1 side lists-right entry-right
 table1-proper = proper-lists men women refl refl
-
--- the values of f at the n numbers from i on
-abbrev pub values : (ℕ → ℕ) → ℕ → ℕ → List ℕ
-values f i zero = []
-values f i (suc n) = f i ∷ values f (suc i) n
 
 -- student-best
 pub table1-student-best : values (partners table1 (proposer-optimal table1)) 0 7 ≡ 5 ∷ 4 ∷ 6 ∷ 3 ∷ 1 ∷ 0 ∷ 2 ∷ []
