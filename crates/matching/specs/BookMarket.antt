@@ -2,7 +2,7 @@
 use Prim.Native.Nat.{ℕ, _+_}
 use mathlib.Core.List.{List}
 use Rattle.instance.specs.Format.{people, listLength, entry}
-use Rattle.stable_theory.specs.Market.{Market, sideFrom}
+use Rattle.stable_theory.specs.Stable.Market.{Market, sideFrom}
 
 unfoldable pub market : List ℕ → Market
 market b =

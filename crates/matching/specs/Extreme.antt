@@ -8,8 +8,8 @@ use Rattle.laws.specs.Tabulate.{tabulate}
 use Rattle.instance.specs.Verdict.{Verdict, fine, refused, rule, andThen}
 use Rattle.instance.specs.Format.{people}
 use Rattle.instance.specs.Check.{checkBook}
-use Rattle.stable_theory.specs.Market.{Market, exchange}
-use Rattle.stable_theory.specs.Least.{least}
+use Rattle.stable_theory.specs.Stable.Market.{Market, exchange}
+use Rattle.stable_theory.specs.Least.Settle.{least}
 use Rattle.matching.specs.BookMarket.{market}
 
 -- The proposers' partners under a place vector: whoever stands there on each one's list

@@ -1,0 +1,9 @@
+-- Repairs of a pair, the answer, robustness. Assumes nothing.
+pub mod Repair
+pub mod RepairLaws
+pub mod Moves
+pub mod Between
+pub mod Answer
+pub mod AnswerLaws
+pub mod RobustLaws
+pub mod Demand3Theory

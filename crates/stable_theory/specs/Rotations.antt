@@ -1,0 +1,25 @@
+-- Rotations, their numbering and order, closed subsets. Assumes nothing.
+pub mod Rotation
+pub mod ExtraVector
+pub mod NextLaws
+pub mod Eliminate
+pub mod EliminateStable
+pub mod Dichotomy
+pub mod Numbering
+pub mod FollowLaws
+pub mod SameRotation
+pub mod RotationAt
+pub mod Choose
+pub mod Subset
+pub mod Canonical
+pub mod Rebuild
+pub mod Identify
+pub mod OneRotation
+pub mod Runs
+pub mod Precedence
+pub mod ClosedSubset
+pub mod RotationCount
+pub mod SharedMan
+pub mod Cover
+pub mod CanonicalStep
+pub mod Demand2Theory
