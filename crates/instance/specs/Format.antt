@@ -1,7 +1,7 @@
 -- The book of document 01, byte by byte. Assumes nothing.
 use Prim.Native.Nat.{ℕ, zero, suc, _+_, _*_}
 use mathlib.Core.List.{List}
-use lib.ListN.{getD}
+use lib.ListN.{getD, take, drop}
 
 -- The largest n
 abbrev pub largest : ℕ
@@ -38,6 +38,10 @@ due b (suc k) = offset b k + listLength b k
 -- Entry j of list k
 unfoldable pub entry : List ℕ → ℕ → ℕ → ℕ
 entry b k j = byte b (offset b k + j)
+
+-- List k as a stretch of the book, from its directory offset
+abbrev pub stretch : List ℕ → ℕ → List ℕ
+stretch b k = take (listLength b k) (drop (offset b k) b)
 
 -- How many bytes a book of n students and n mentors has
 unfoldable pub size : ℕ → ℕ

@@ -1,6 +1,6 @@
 -- Rules 6 and 7: strangers and repeats in lists. A list is a function from places to entries. Assumes nothing.
 use Prim.Native.Nat.{ℕ, _+_}
-use mathlib.Core.Bool.{Bool, true, false}
+use mathlib.Core.Bool.{Bool}
 use lib.Dec.{leb, ltb, eqb}
 use Rattle.laws.specs.Choice.{pick, either}
 use Rattle.laws.specs.First.{first, some}
@@ -22,9 +22,13 @@ faulty n l j = either (stranger n l j) (repeat l j)
 unfoldable pub firstFaulty : ℕ → (ℕ → ℕ) → ℕ → ℕ
 firstFaulty n l len = first (faulty n l) len
 
--- The first of the given number of lists that has a faulty entry, or that number. List k is e k, with len k entries
+-- List k has a faulty entry. List k is e k, with len k entries
+abbrev pub faultyList : ℕ → (ℕ → ℕ → ℕ) → (ℕ → ℕ) → ℕ → Bool
+faultyList n e len k = ltb (firstFaulty n (e k) (len k)) (len k)
+
+-- The first of the given number of lists that has a faulty entry, or that number
 unfoldable pub firstFaultyList : ℕ → (ℕ → ℕ → ℕ) → (ℕ → ℕ) → ℕ → ℕ
-firstFaultyList n e len lists = first (λ k. ltb (firstFaulty n (e k) (len k)) (len k)) lists
+firstFaultyList n e len lists = first (faultyList n e len) lists
 
 -- Rules 6 and 7 over lists whose entries stand one a byte from start k on: list by list and place by place, 6 before 7 at one entry
 unfoldable pub checkLists : ℕ → (ℕ → ℕ → ℕ) → (ℕ → ℕ) → (ℕ → ℕ) → ℕ → Verdict

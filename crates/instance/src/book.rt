@@ -1,16 +1,17 @@
 // The check of a book.
 use crate::Checked;
+use crate::Instance;
 use crate::Refusal;
 use crate::field::length_of;
+use crate::field::list_of;
 use crate::field::offset_of;
 use crate::field::size_of;
 use crate::field::wide;
 use crate::lists::first_faulty;
 ghost use mathlib.Core.Path.{_≡_};
-ghost use Prim.Native.Nat.{_+_, _*_, _≤_};
-ghost use lib.ListN.{length};
+ghost use Prim.Native.Nat.{_+_, _*_};
 ghost use Rattle.instance.specs.Verdict.{refused, verdictOf};
-ghost use Rattle.instance.specs.Format.{people, offset, listLength, entry, size};
+ghost use Rattle.instance.specs.Format.{offset, listLength, entry, size};
 ghost use Rattle.instance.specs.Lists.{firstFaultyList, checkLists};
 ghost use Rattle.instance.specs.Check.{firstMisfiled, checkBook, Sized, Filed};
 
@@ -33,7 +34,7 @@ pub fn check(book: &[u8]) -> Checked
         return refuse(2, 0);
     }
     let n = wide(book[1]);
-    if 64 < n {
+    if Instance::LARGEST < n {
         return refuse(3, 1);
     }
     let size = size_of(n);
@@ -79,11 +80,8 @@ fn first_faulty_list(book: &[u8], n: usize) -> usize
 {
     let mut k = 0;
     while k < 2 * n {
-        let at = offset_of(book, k);
-        let len = length_of(book, k);
-        let end = at + len;
-        let j = first_faulty(&book[at..end], n);
-        if j < len {
+        let list = list_of(book, k);
+        if first_faulty(list, n) < list.len() {
             return k;
         }
         k += 1;
@@ -100,14 +98,10 @@ fn check_lists(book: &[u8], n: usize) -> Checked
     if 2 * n <= k {
         return Checked::Fine;
     }
+    let list = list_of(book, k);
+    let j = first_faulty(list, n);
     let at = offset_of(book, k);
-    let len = length_of(book, k);
-    let end = at + len;
-    let j = first_faulty(&book[at..end], n);
-    if len <= j {
-        return Checked::Fine;
-    }
-    if n <= wide(book[at + j]) {
+    if n <= wide(list[j]) {
         return refuse(6, at + j);
     }
     refuse(7, at + j)

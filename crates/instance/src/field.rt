@@ -1,8 +1,9 @@
-// Reads of single fields of a book.
+// Reads of a book: single fields, and one list.
 ghost use mathlib.Core.Path.{_≡_};
 ghost use Prim.Native.Nat.{_+_, _*_, _<_};
 ghost use lib.ListN.{length};
-ghost use Rattle.instance.specs.Format.{word, offset, listLength, size};
+ghost use Rattle.instance.specs.Format.{word, offset, listLength, stretch, size};
+ghost use Rattle.instance.specs.Directory.{Listed};
 
 // A byte as a number.
 pub(crate) fn wide(x: u8) -> usize
@@ -35,6 +36,17 @@ pub(crate) fn length_of(b: &[u8], k: usize) -> usize
     ensures { λ r. ⌜ (r ≡ listLength (now (b .entry)) k) × (r < 65536) ⌝ }
 {
     word_at(b, 4 + 4 * k)
+}
+
+// List k, from its directory offset.
+pub(crate) fn list_of(b: &[u8], k: usize) -> &[u8]
+    requires { ⌜ Listed (now b) k ⌝ }
+    ensures { λ r. ⌜ now r ≡ stretch (now (b .entry)) k ⌝ }
+{
+    let at = offset_of(b, k);
+    let len = length_of(b, k);
+    let end = at + len;
+    &b[at..end]
 }
 
 // How many bytes a book of n men and n women has.

@@ -5,8 +5,18 @@
 mod book;
 mod field;
 mod lists;
+mod person;
+mod record;
+mod writer;
 
 pub use book::check;
+pub use person::check_man;
+pub use person::check_woman;
+pub use person::man_list;
+pub use person::woman_list;
+pub use record::Instance;
+pub use record::Loaded;
+pub use writer::write;
 
 // A broken rule of document 01's table: its number, and the place given.
 pub struct Refusal {
@@ -19,3 +29,9 @@ pub enum Checked {
     Fine,
     Refused(Refusal),
 }
+
+// A man, document 01's student, by number.
+pub struct Man(pub u8);
+
+// A woman, document 01's mentor, by number.
+pub struct Woman(pub u8);

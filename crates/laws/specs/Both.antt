@@ -17,3 +17,8 @@ both-right false c e = absurd (clash e refl)
 -- each passes, so both do
 pub both-true : {b c : Bool} → b ≡ true → c ≡ true → both b c ≡ true
 both-true e f = rw (e, f)
+
+-- the second fails, so they do not both pass
+pub both-false : (b : Bool) → both b false ≡ false
+both-false true = refl
+both-false false = refl

@@ -1,10 +1,10 @@
 -- Cases on an order or on a test, as functions. Assumes nothing.
 use Prim.Native.Nat.{ℕ, _≤_, _<_}
-use mathlib.Core.Path.{_≡_, refl}
+use mathlib.Core.Path.{_≡_, refl, subst}
 use mathlib.Core.Bool.{Bool, true, false}
-use mathlib.Core.Logic.{_⊎_, inl, inr}
 use native.Mathlib.Omega.{arith}
 use native.Mathlib.Decide.{decLe, ℕ-discrete}
+use lib.Dec.{T}
 
 -- one of two values, by a test
 abbrev pub pick : {A : Type 0} → Bool → A → A → A
@@ -28,6 +28,11 @@ either-true false = refl
 pub either-false : (b : Bool) → either b false ≡ b
 either-false true = refl
 either-false false = refl
+
+-- neither passes, so each fails
+pub either-none : (s t : Bool) → either s t ≡ false → (s ≡ false) × (t ≡ false)
+either-none true t e = absurd (subst T e tt)
+either-none false t e = (refl, e)
 
 -- a ≤ b or b < a
 pub split : {C : Type 0} (a b : ℕ) → (a ≤ b → C) → (b < a → C) → C

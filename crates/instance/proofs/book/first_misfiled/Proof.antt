@@ -1,67 +1,64 @@
+-- `instance::book::first_misfiled` meets its contract. The loop's invariant: the directory pairs before pair k are as they have to be,
+-- and `due` is where list k is due. The measure is the number of pairs left. Assumes nothing.
+use Prim.Native.Nat.{_*_, _-_}
+use mathlib.Core.Path.{sym}
+use native.Mathlib.Omega.{arith}
+use Rattle.instance.specs.Directory.{in-directory}
+use Rattle.instance.specs.Filing.{Filing, filing-start, filing-offset, filing-length, filing-on, filing-end}
 use Rattle.instance.proofs.book.first_misfiled.Statement.{statement}
 use Rattle.instance.proofs.book.first_misfiled.Tie as tie
-use Rattle.instance.proofs.book.first_misfiled.Reads as reads
-use Rattle.instance.proofs.book.first_misfiled.Lts as lts
-use Rattle.instance.proofs.field.length_of.Reads as length-of-reads
-use Rattle.instance.proofs.field.offset_of.Reads as offset-of-reads
 
 abbrev Inv-loop : tie.InvT-loop
-Inv-loop book n due₀ k₀ due k = ?
+Inv-loop book n due₀ k₀ due k = Filing book n due k
 
 abbrev μ-loop : tie.MeasureT-loop
-μ-loop book n due₀ k₀ due k = ?
+μ-loop book n due₀ k₀ due k = 2 * n - k
 
--- src/book.rt:54:23
 mul-due : tie.Need-mul-due Inv-loop μ-loop
-mul-due c = ?
+mul-due c = omega arith
 
--- src/book.rt:54:19
 add-due : tie.Need-add-due Inv-loop μ-loop
-add-due c = ?
+add-due c = omega arith
 
--- src/book.rt:56:5
 loop-holds : tie.Need-loop-holds Inv-loop μ-loop
-loop-holds c = ?
+loop-holds c = filing-start (c .before .pre)
 
--- src/book.rt:56:15
 mul-loop : tie.Need-mul-loop Inv-loop μ-loop
-mul-loop c = ?
+mul-loop c = omega arith
 
--- src/book.rt:57:13
 offset-of-requires : tie.Need-offset-of-requires Inv-loop μ-loop
-offset-of-requires c κs = ?
+offset-of-requires c κs = in-directory (c .before .before .before .pre) (c .loop-test .taken)
 
--- src/book.rt:58:13
 length-of-requires : tie.Need-length-of-requires Inv-loop μ-loop
-length-of-requires c κs = ?
+length-of-requires c κs = in-directory (c .before .before .before .before .pre) (c .before .loop-test .taken)
 
--- src/book.rt:60:13
 returns : tie.Need-returns Inv-loop μ-loop
-returns c = ?
+returns c =
+    sym (filing-offset (c .before .before .before .before .before .before .pre) (c .before .before .before .before .loop .inv)
+    (c .before .before .before .loop-test .taken) (c .before .before .offset-of .ensures .0) (c .if1 .taken))
 
--- src/book.rt:63:13
 returns-2 : tie.Need-returns-2 Inv-loop μ-loop
-returns-2 c = ?
+returns-2 c =
+    sym (filing-length (c .before .before .before .before .before .before .before .pre) (c .before .before .before .before .before .loop .inv)
+    (c .before .before .before .before .loop-test .taken) (c .before .before .length-of .ensures .0) (c .if2 .taken))
 
--- src/book.rt:65:15
 add-due-2 : tie.Need-add-due-2 Inv-loop μ-loop
-add-due-2 c = ?
+add-due-2 c = omega arith
 
--- src/book.rt:66:9
 add-k : tie.Need-add-k Inv-loop μ-loop
-add-k c = ?
+add-k c = omega arith
 
--- src/book.rt:56:5
 loop-less : tie.Need-loop-less Inv-loop μ-loop
-loop-less c = ?
+loop-less c = omega arith
 
--- src/book.rt:56:5
 loop-again : tie.Need-loop-again Inv-loop μ-loop
-loop-again c = ?
+loop-again c =
+    filing-on (c .before .before .before .before .before .before .before .pre) (c .before .before .before .before .before .loop .inv)
+    (c .before .before .before .before .loop-test .taken) (c .before .before .before .offset-of .ensures .0) (c .before .if1 .left)
+    (c .before .before .length-of .ensures .0) (c .if2 .left)
 
--- src/book.rt:50:1
 returns-3 : tie.Need-returns-3 Inv-loop μ-loop
-returns-3 c = ?
+returns-3 c = sym (filing-end (c .before .before .before .pre) (c .before .loop .inv) (c .loop-test .left))
 
 pub first-misfiled-spec : {M : Type 1} → statement M
 first-misfiled-spec =

@@ -1,33 +1,29 @@
-use borrow.Author.Needs.{needs}
+-- `instance::field::size_of` meets its contract. No sum wraps, since the square of a number below 256 is small. Assumes nothing.
+use mathlib.Core.Path.{refl}
+use native.Mathlib.Omega.{arith}
+use Rattle.instance.specs.Format.{size}
+use Rattle.instance.specs.Directory.{square}
 use Rattle.instance.proofs.field.size_of.Statement.{statement}
 use Rattle.instance.proofs.field.size_of.Tie as tie
-use Rattle.instance.proofs.field.size_of.Reads as reads
-use Rattle.instance.proofs.field.size_of.Lts as lts
 
--- src/field.rt:45:9
 mul-result : tie.Need-mul-result
-mul-result c = search needs
+mul-result c = omega arith
 
--- src/field.rt:45:5
 add-result : tie.Need-add-result
-add-result c = search needs
+add-result c = omega arith
 
--- src/field.rt:45:22
 mul-result-2 : tie.Need-mul-result-2
-mul-result-2 c = ?
+mul-result-2 c = omega (arith, square (c .pre))
 
--- src/field.rt:45:17
 mul-result-3 : tie.Need-mul-result-3
-mul-result-3 c = ?
+mul-result-3 c = omega (arith, square (c .pre))
 
--- src/field.rt:45:5
 add-result-2 : tie.Need-add-result-2
-add-result-2 c = ?
+add-result-2 c = omega (arith, square (c .pre))
 
--- src/field.rt:41:1
 returns : tie.Need-returns
-returns c = ?
+unfolding size
+returns c = refl
 
 pub size-of-spec : {M : Type 1} → statement M
-size-of-spec =
-    tie.close (tie.spec mul-result add-result mul-result-2 mul-result-3 add-result-2 returns)
+size-of-spec = tie.close (tie.spec mul-result add-result mul-result-2 mul-result-3 add-result-2 returns)

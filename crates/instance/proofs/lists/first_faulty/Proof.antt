@@ -1,58 +1,57 @@
+-- `instance::lists::first_faulty` meets its contract. The loop's invariant: no entry before place j is faulty, and exactly the
+-- entries before place j are marked. The measure is what is left of the list. Assumes nothing.
+use Prim.Native.Nat.{_-_}
+use mathlib.Core.Path.{refl, sym}
+use native.Mathlib.Omega.{arith}
+use lib.ListN.{length}
+use Rattle.instance.specs.Format.{byte}
+use Rattle.instance.specs.Faults.{Sought, sought-start, sought-stranger, sought-repeat, sought-on, sought-end}
 use Rattle.instance.proofs.lists.first_faulty.Statement.{statement}
 use Rattle.instance.proofs.lists.first_faulty.Tie as tie
-use Rattle.instance.proofs.lists.first_faulty.Reads as reads
-use Rattle.instance.proofs.lists.first_faulty.Lts as lts
-use Rattle.instance.proofs.field.wide.Reads as wide-reads
 
 abbrev Inv-loop : tie.InvT-loop
-Inv-loop list n marks₀ j₀ marks j = ?
+Inv-loop list n marks₀ j₀ marks j = Sought n (byte list) (length list) marks j
 
 abbrev μ-loop : tie.MeasureT-loop
-μ-loop list n marks₀ j₀ marks j = ?
+μ-loop list n marks₀ j₀ marks j = length list - j
 
--- src/lists.rt:15:5
 loop-holds : tie.Need-loop-holds Inv-loop μ-loop
-loop-holds c = ?
+loop-holds c = sought-start _ _ _ _ refl
 
--- src/lists.rt:16:22
 shared-slice-read-wide : tie.Need-shared-slice-read-wide Inv-loop μ-loop
-shared-slice-read-wide c = ?
+shared-slice-read-wide c = omega arith
 
--- src/lists.rt:16:13
 wide-requires : tie.Need-wide-requires Inv-loop μ-loop
-wide-requires c κs = ?
+wide-requires c κs = tt
 
--- src/lists.rt:18:13
 returns : tie.Need-returns Inv-loop μ-loop
-returns c = ?
+returns c =
+    sym (sought-stranger (c .before .before .before .before .loop .inv) (omega arith) (c .before .wide .ensures .0) (c .if1 .taken))
 
--- src/lists.rt:20:12
 array-read-if2 : tie.Need-array-read-if2 Inv-loop μ-loop
-array-read-if2 c = ?
+array-read-if2 c = omega arith
 
--- src/lists.rt:21:13
 returns-2 : tie.Need-returns-2 Inv-loop μ-loop
-returns-2 c = ?
+returns-2 c =
+    sym
+    (sought-repeat (c .before .before .before .before .before .loop .inv) (omega arith) (c .before .before .wide .ensures .0) (c .before .before .wide .ensures .1) (c .if2 .taken))
 
--- src/lists.rt:23:9
 array-write-marks : tie.Need-array-write-marks Inv-loop μ-loop
-array-write-marks c = ?
+array-write-marks c = c .before .before .wide .ensures .1
 
--- src/lists.rt:24:9
 add-j : tie.Need-add-j Inv-loop μ-loop
-add-j c = ?
+add-j c = omega arith
 
--- src/lists.rt:15:5
 loop-less : tie.Need-loop-less Inv-loop μ-loop
-loop-less c = ?
+loop-less c = omega arith
 
--- src/lists.rt:15:5
 loop-again : tie.Need-loop-again Inv-loop μ-loop
-loop-again c = ?
+loop-again c =
+    sought-on (c .before .before .before .before .before .loop .inv) (omega arith) (c .before .before .wide .ensures .0) (c .before .before .wide .ensures .1)
+    (omega arith) (c .if2 .left)
 
--- src/lists.rt:10:1
 returns-3 : tie.Need-returns-3 Inv-loop μ-loop
-returns-3 c = ?
+returns-3 c = sym (sought-end (c .before .loop .inv) (c .loop-test .left))
 
 pub first-faulty-spec : {M : Type 1} → statement M
 first-faulty-spec =

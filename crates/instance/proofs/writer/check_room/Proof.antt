@@ -1,0 +1,20 @@
+-- `instance::writer::check_room` meets its contract. Assumes nothing.
+use borrow.Author.Tests.{lt-ltb, le-ltb}
+use borrow.Author.Needs.{needs}
+use Rattle.instance.proofs.writer.check_room.Statement.{statement}
+use Rattle.instance.proofs.writer.check_room.Tie as tie
+
+size-of-requires : tie.Need-size-of-requires
+size-of-requires c κs = search needs
+
+refuse-requires : tie.Need-refuse-requires
+refuse-requires c κs = search needs
+
+returns : tie.Need-returns
+returns c = rw (c .refuse .ensures, ← c .before .before .size-of .ensures, lt-ltb _ _ (c .before .if1 .taken))
+
+returns-2 : tie.Need-returns-2
+returns-2 c = rw (← c .before .size-of .ensures, le-ltb _ _ (c .if1 .left))
+
+pub check-room-spec : {M : Type 1} → statement M
+check-room-spec = tie.close (tie.spec size-of-requires refuse-requires returns returns-2)

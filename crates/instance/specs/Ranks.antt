@@ -1,0 +1,57 @@
+-- The rank table and the list table of a side are inverse on 0 … n − 1, for every n. Assumes nothing.
+use Prim.Native.Nat.{ℕ, _+_, _*_, _<_, _≤_}
+use mathlib.Core.Path.{_≡_, refl, sym, _∙_, ap}
+use mathlib.Core.List.{List}
+use native.Mathlib.Omega.{arith}
+use lib.ListN.{getD}
+use Rattle.laws.specs.Table.{cell}
+use Rattle.instance.specs.Verdict.{Verdict, fine, refused}
+use Rattle.instance.specs.Format.{people, entry}
+use Rattle.instance.specs.Check.{checkBook}
+use Rattle.instance.specs.WellFormed.{WellFormed, fine-well-formed}
+use Rattle.instance.specs.Place.{place, place-lt, entry-at-place, place-of-entry}
+use Rattle.instance.specs.Record.{SideTables, Source, numberIf}
+
+-- what `Recorded` says of n: the book is well formed, or n is 0
+pub recorded-source : (b : List ℕ) → Source b (numberIf (checkBook b) (people b))
+recorded-source b = by-verdict (checkBook b) refl
+  where
+    by-verdict : (v : Verdict) → checkBook b ≡ v → Source b (numberIf v (people b))
+    by-verdict fine e =
+        let W = fine-well-formed b .0 e in
+        record { formed = λ h. W; number = λ h. refl; few = W .few }
+    by-verdict (refused number place) e =
+        record { formed = λ h. absurd (omega arith); number = λ h. absurd (omega arith); few = omega arith }
+
+module _ {b lengths lists ranks : List ℕ} {n from : ℕ} (F : Source b n) (h : from ≤ n) (S : SideTables b n from lengths lists ranks) {i : ℕ} (u : i < n) where
+  formed : WellFormed b
+  formed = F .formed (omega arith)
+
+  number : n ≡ people b
+  number = F .number (omega arith)
+
+  lies : from + i < 2 * people b
+  lies = omega (arith, number)
+
+  -- every list has n entries
+  pub length-full : getD lengths i 0 ≡ n
+  length-full = S .length-at u ∙ formed .lengths lies ∙ sym number
+
+  -- entries and ranks are below n
+  pub list-lt : {j : ℕ} → j < n → cell lists n i j < n
+  list-lt {j} v = omega (arith, S .lists-done .cells u v, number, formed .names lies .below (below v))
+    where
+      below : {k : ℕ} → k < n → k < people b
+      below l = omega (arith, number)
+
+  pub rank-lt : {w : ℕ} → w < n → cell ranks n i w < n
+  rank-lt {w} v = omega (arith, S .ranks-done .cells u v, number, place-lt formed lies {w = w} (omega (arith, number)))
+
+  -- the rank of entry j is j, and at the rank of w stands w
+  pub rank-of-list : {j : ℕ} → j < n → cell ranks n i (cell lists n i j) ≡ j
+  rank-of-list {j} v =
+      S .ranks-done .cells u (list-lt v) ∙ ap (place b (from + i)) (S .lists-done .cells u v) ∙ place-of-entry formed lies (omega (arith, number))
+
+  pub list-of-rank : {w : ℕ} → w < n → cell lists n i (cell ranks n i w) ≡ w
+  list-of-rank {w} v =
+      S .lists-done .cells u (rank-lt v) ∙ ap (entry b (from + i)) (S .ranks-done .cells u v) ∙ entry-at-place formed lies (omega (arith, number))

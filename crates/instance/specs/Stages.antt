@@ -1,0 +1,103 @@
+-- The verdict on a book, rule by rule: what it is where the rules before are passed, and what is known where nothing is refused.
+-- Assumes nothing.
+use Prim.Native.Nat.{ℕ, _+_, _*_, _≤_, _<_}
+use mathlib.Core.Path.{_≡_, refl, sym, _∙_}
+use mathlib.Core.Bool.{not}
+use mathlib.Core.List.{List}
+use native.Mathlib.Omega.{arith}
+use lib.Dec.{ltb}
+use lib.ListN.{length}
+use borrow.Author.Tests.{lt-ltb, le-ltb, eq-eqb, ne-eqb}
+use Rattle.laws.specs.Choice.{split, same}
+use Rattle.laws.specs.First.{first-le}
+use Rattle.instance.specs.Verdict.{fine, refused, refuses, rule}
+use Rattle.instance.specs.Format.{largest, byte, people, offset, listLength, entry, size}
+use Rattle.instance.specs.Lists.{checkLists}
+use Rattle.instance.specs.Check.{filed, firstMisfiled, checkBook, Sized, Filed}
+
+-- What is known of a book once its first two bytes are read
+pub record Opened (b : List ℕ) (n : ℕ) : Type 0 where
+  pub long : 2 ≤ length b
+  pub edition : byte b 0 ≡ 1
+  pub number : n ≡ people b
+  pub few : n ≤ largest
+
+module _ (b : List ℕ) where
+  pub check-tiny : length b < 2 → checkBook b ≡ refused 1 (length b)
+  unfolding checkBook
+  check-tiny h = rw (lt-ltb _ _ h)
+
+  pub check-edition : 2 ≤ length b → (byte b 0 ≡ 1 → ⊥) → checkBook b ≡ refused 2 0
+  unfolding checkBook
+  check-edition h ne = rw (le-ltb _ _ h, ne-eqb _ _ ne)
+
+  pub check-crowd : {n : ℕ} → 2 ≤ length b → byte b 0 ≡ 1 → n ≡ people b → largest < n → checkBook b ≡ refused 3 1
+  unfolding checkBook
+  check-crowd h e q m = rw (le-ltb _ _ h, eq-eqb _ _ e, ← q, lt-ltb _ _ m)
+
+module _ {b : List ℕ} {n : ℕ} (O : Opened b n) where
+  rest : checkBook b
+      ≡ rule (ltb (length b) (size n)) 1 (length b)
+      (rule (ltb (size n) (length b)) 4 (size n)
+      (rule (ltb (firstMisfiled b) (2 * n)) 5 (2 + 4 * firstMisfiled b) (checkLists n (entry b) (listLength b) (offset b) (2 * n))))
+  unfolding checkBook
+  rest = rw (le-ltb _ _ (O .long), eq-eqb _ _ (O .edition), ← O .number, le-ltb _ _ (O .few))
+
+  pub check-short : {s : ℕ} → s ≡ size n → length b < s → checkBook b ≡ refused 1 (length b)
+  check-short q h = rw (rest, ← q, lt-ltb _ _ h)
+
+  pub check-long : {s : ℕ} → s ≡ size n → s < length b → checkBook b ≡ refused 4 s
+  check-long {s} q h = let m : s ≤ length b = omega arith in rw (rest, ← q, le-ltb _ _ m, lt-ltb _ _ h)
+
+  pub sized : {s : ℕ} → s ≡ size n → s ≤ length b → length b ≤ s → Sized b n
+  sized q l m = record { number = O .number; few = O .few; long = omega arith }
+
+  module _ (S : Sized b n) {k : ℕ} (e : k ≡ firstMisfiled b) where
+    pub in-order : 2 * n ≤ k → Filed b n
+    unfolding firstMisfiled
+    in-order h =
+        record { sized = S; filed = let l = first-le (λ i. not (filed b i)) (2 * people b) in let q = S .number in omega arith }
+
+    directory : checkBook b ≡ rule (ltb k (2 * n)) 5 (2 + 4 * k) (checkLists n (entry b) (listLength b) (offset b) (2 * n))
+    directory =
+        let l : size n ≤ length b = omega (arith, S .long) in
+        let m : length b ≤ size n = omega (arith, S .long) in
+        rw (rest, le-ltb _ _ l, le-ltb _ _ m, ← e)
+
+    pub check-misfiled : k < 2 * n → checkBook b ≡ refused 5 (2 + 4 * k)
+    check-misfiled h = rw (directory, lt-ltb _ _ h)
+
+    pub check-filed : 2 * n ≤ k → checkBook b ≡ checkLists n (entry b) (listLength b) (offset b) (2 * n)
+    check-filed h = rw (directory, le-ltb _ _ h)
+
+-- What is known of a book in which nothing is refused
+module _ (b : List ℕ) (e : checkBook b ≡ fine) where
+  pub fine-opened : Opened b (people b)
+  fine-opened =
+      record {
+        long = long;
+        edition = edition;
+        number = refl;
+        few = split (people b) largest (λ h. h) (λ h. absurd (refuses (check-crowd b long edition refl h) e));
+      }
+    where
+      long : 2 ≤ length b
+      long = split 2 (length b) (λ h. h) (λ h. absurd (refuses (check-tiny b h) e))
+
+      edition : byte b 0 ≡ 1
+      edition = same (byte b 0) 1 (λ h. h) (λ h. absurd (refuses (check-edition b long h) e))
+
+  pub fine-sized : Sized b (people b)
+  fine-sized =
+      sized fine-opened refl
+      (split (size (people b)) (length b) (λ h. h) (λ h. absurd (refuses (check-short fine-opened refl h) e)))
+      (split (length b) (size (people b)) (λ h. h) (λ h. absurd (refuses (check-long fine-opened refl h) e)))
+
+  past : 2 * people b ≤ firstMisfiled b
+  past = split (2 * people b) (firstMisfiled b) (λ h. h) (λ h. absurd (refuses (check-misfiled fine-opened fine-sized refl h) e))
+
+  pub fine-filed : Filed b (people b)
+  fine-filed = in-order fine-opened fine-sized refl past
+
+  pub fine-lists : checkLists (people b) (entry b) (listLength b) (offset b) (2 * people b) ≡ fine
+  fine-lists = sym (check-filed fine-opened fine-sized refl past) ∙ e
