@@ -14,7 +14,7 @@ use Rattle.laws.specs.Choice.{pick}
 use Rattle.laws.specs.Both.{both-left, both-right}
 use Rattle.laws.specs.First.{first-miss}
 use Rattle.instance.specs.Format.{byte, people, offset, listLength, listsStart, due, entry, stretch, size}
-use Rattle.instance.specs.Verdict.{refused}
+use Rattle.instance.specs.Verdict.{broken}
 use Rattle.instance.specs.Lists.{firstFaulty, faultyList, firstFaultyList, checkLists}
 use Rattle.instance.specs.Faults.{faulty-cong, fault-within, lists-refused}
 use Rattle.instance.specs.Check.{filed, firstMisfiled, Sized, Filed}
@@ -122,13 +122,13 @@ module _ {b : List ℕ} {n k : ℕ} {l : List ℕ} {j : ℕ} (X : Fault b n k l 
 
   -- and refuses the byte there, by 6 where it is n or more and by 7 where it is not
   module _ {v at : ℕ} (t : v ≡ getD l j 0) (u : at ≡ offset b k) where
-    refusal : checkLists n (entry b) (listLength b) (offset b) (2 * n) ≡ refused (pick (leb n v) 6 7) (at + j)
+    refusal : checkLists n (entry b) (listLength b) (offset b) (2 * n) ≡ broken (pick (leb n v) 6 7) (at + j)
     refusal =
         lists-refused n (entry b) (listLength b) (offset b) (2 * n) (X .found) (X .within) (X .stop ∙ stretch-faulty n lies (X .list))
         (t ∙ ap (λ (m : List ℕ). getD m j 0) (X .list) ∙ stretch-entry b k (omega (arith, fault-place, ap length (X .list), stretch-length lies))) u
 
-    pub fault-stranger : n ≤ v → checkLists n (entry b) (listLength b) (offset b) (2 * n) ≡ refused 6 (at + j)
-    fault-stranger h = refusal ∙ ap (λ (t : Bool). refused (pick t 6 7) (at + j)) (le-leb _ _ h)
+    pub fault-stranger : n ≤ v → checkLists n (entry b) (listLength b) (offset b) (2 * n) ≡ broken 6 (at + j)
+    fault-stranger h = refusal ∙ ap (λ (t : Bool). broken (pick t 6 7) (at + j)) (le-leb _ _ h)
 
-    pub fault-repeat : v < n → checkLists n (entry b) (listLength b) (offset b) (2 * n) ≡ refused 7 (at + j)
-    fault-repeat h = refusal ∙ ap (λ (t : Bool). refused (pick t 6 7) (at + j)) (lt-leb _ _ h)
+    pub fault-repeat : v < n → checkLists n (entry b) (listLength b) (offset b) (2 * n) ≡ broken 7 (at + j)
+    fault-repeat h = refusal ∙ ap (λ (t : Bool). broken (pick t 6 7) (at + j)) (lt-leb _ _ h)

@@ -13,7 +13,7 @@ use Rattle.laws.specs.Choice.{pick, either, either-true, either-none, split}
 use Rattle.laws.specs.First.{first, some-none, some-false, first-miss, Scan, scan-start, scan-on, scan-hit, scan-end, first-hit, first-cong, some-cong}
 use Rattle.laws.specs.Marks.{Marks, marks-start, marked, unmarked, marks-on}
 use Rattle.laws.specs.Onto.{Into}
-use Rattle.instance.specs.Verdict.{fine, refused, refuses}
+use Rattle.instance.specs.Verdict.{fine, refused, refuses, broken}
 use Rattle.instance.specs.Lists.{stranger, repeat, faulty, firstFaulty, faultyList, firstFaultyList, checkLists}
 
 -- lists with the same entries have the same first faulty entry
@@ -76,7 +76,7 @@ module _ (n : ℕ) (e : ℕ → ℕ → ℕ) (len start : ℕ → ℕ) (lists : 
 
   -- and is refused at it
   pub lists-refused : {k j v at : ℕ} → k ≡ firstFaultyList n e len lists → k < lists → j ≡ firstFaulty n (e k) (len k) → v ≡ e k j → at ≡ start k
-      → checkLists n e len start lists ≡ refused (pick (leb n v) 6 7) (at + j)
+      → checkLists n e len start lists ≡ broken (pick (leb n v) 6 7) (at + j)
   unfolding checkLists
   lists-refused {k} {j} q h r s t = rw (← q, lt-ltb k lists h, ← r, ← s, ← t)
 

@@ -150,6 +150,6 @@ module _ {b : List ℕ} {r : Loaded} (e : verdictOf (r .checked) ≡ checkBook b
   recorded-fine f q t =
       record { checked = e; tables = subst (λ (m : ℕ). Tables b m (r .instance)) (q ∙ sym (ap (λ (v : Verdict). numberIf v (people b)) (sym e ∙ f))) t }
 
-  pub recorded-refused : {number place : ℕ} → verdictOf (r .checked) ≡ refused number place → Tables b 0 (r .instance) → Recorded b r
+  pub recorded-refused : {number place second : ℕ} → verdictOf (r .checked) ≡ refused number place second → Tables b 0 (r .instance) → Recorded b r
   recorded-refused f t =
       record { checked = e; tables = subst (λ (m : ℕ). Tables b m (r .instance)) (sym (ap (λ (v : Verdict). numberIf v (people b)) (sym e ∙ f))) t }

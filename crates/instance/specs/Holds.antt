@@ -6,7 +6,7 @@ use native.Mathlib.Omega.{arith}
 use lib.Dec.{ltb, leb}
 use lib.ListN.{length, getD}
 use Rattle.laws.specs.Choice.{pick}
-use Rattle.instance.specs.Verdict.{refused}
+use Rattle.instance.specs.Verdict.{refused, broken}
 use Rattle.instance.specs.Format.{byte}
 use Rattle.instance.specs.Lists.{firstFaulty, faultyList, firstFaultyList, checkLists}
 use Rattle.instance.specs.Faults.{faulty-cong, fault-within, lists-refused}
@@ -40,7 +40,7 @@ module _ {n : ℕ} {e : ℕ → ℕ → ℕ} {len : ℕ → ℕ} {lists k : ℕ}
 
   -- at the entry that is refused
   pub stop-refused : (start : ℕ → ℕ) {v at : ℕ} → v ≡ getD l j 0 → at ≡ start k
-      → checkLists n e len start lists ≡ refused (pick (leb n v) 6 7) (at + j)
+      → checkLists n e len start lists ≡ broken (pick (leb n v) 6 7) (at + j)
   stop-refused start t u =
       lists-refused n e len start lists (S .found) (S .within) (S .stop ∙ holds-faulty n (S .holds))
       (t ∙ S .holds .entries j (omega (arith, stop-place, S .holds .long))) u

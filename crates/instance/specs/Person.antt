@@ -17,7 +17,7 @@ checkPerson b number = andThen (checkBook b) (rule (leb (people b) number) 11 0 
 -- A list where the check found nothing, and no bytes otherwise
 abbrev pub ifFine : Verdict → List ℕ → List ℕ
 ifFine fine l = l
-ifFine (refused number place) l = []
+ifFine (refused number place second) l = []
 
 -- The list of a student, and of a mentor
 abbrev pub manList : List ℕ → ℕ → List ℕ
@@ -41,7 +41,7 @@ module _ (b : List ℕ) (i : ℕ) (e : checkPerson b i ≡ fine) where
       omega (arith, mul-le-mul-right n s, one-mul n, person-lt)
 
 -- on a refusal no bytes, and else the list
-pub no-list : {v : Verdict} (l : List ℕ) {number place : ℕ} → v ≡ refused number place → ifFine v l ≡ []
+pub no-list : {v : Verdict} (l : List ℕ) {number place second : ℕ} → v ≡ refused number place second → ifFine v l ≡ []
 no-list l e = ap (λ (u : Verdict). ifFine u l) e
 
 pub the-list : {v : Verdict} (l : List ℕ) → v ≡ fine → ifFine v l ≡ l

@@ -20,7 +20,7 @@ recorded-source b = by-verdict (checkBook b) refl
     by-verdict fine e =
         let W = fine-well-formed b .0 e in
         record { formed = λ h. W; number = λ h. refl; few = W .few }
-    by-verdict (refused number place) e =
+    by-verdict (refused number place second) e =
         record { formed = λ h. absurd (omega arith); number = λ h. absurd (omega arith); few = omega arith }
 
 module _ {b lengths lists ranks : List ℕ} {n from : ℕ} (F : Source b n) (h : from ≤ n) (S : SideTables b n from lengths lists ranks) {i : ℕ} (u : i < n) where

@@ -35,7 +35,7 @@ SideTables b n from lengths lists ranks = Rows b n from n lengths lists ranks
 -- A number where nothing is refused, and 0 otherwise
 abbrev pub numberIf : Verdict → ℕ → ℕ
 numberIf fine n = n
-numberIf (refused number place) n = 0
+numberIf (refused number place second) n = 0
 
 -- The record of n men and n women: the men's lists are those from number 0 on, the women's those from n on
 pub record Tables (b : List ℕ) (n : ℕ) (r : Instance) : Type 0 where

@@ -10,7 +10,7 @@ use lib.ListN.{length}
 use borrow.Author.Tests.{lt-ltb, le-ltb, eq-eqb, ne-eqb}
 use Rattle.laws.specs.Choice.{split, same}
 use Rattle.laws.specs.First.{first-le}
-use Rattle.instance.specs.Verdict.{fine, refused, refuses, rule}
+use Rattle.instance.specs.Verdict.{fine, refused, refuses, rule, broken}
 use Rattle.instance.specs.Format.{largest, byte, people, offset, listLength, entry, size}
 use Rattle.instance.specs.Lists.{checkLists}
 use Rattle.instance.specs.Check.{filed, firstMisfiled, checkBook, Sized, Filed}
@@ -23,15 +23,15 @@ pub record Opened (b : List ℕ) (n : ℕ) : Type 0 where
   pub few : n ≤ largest
 
 module _ (b : List ℕ) where
-  pub check-tiny : length b < 2 → checkBook b ≡ refused 1 (length b)
+  pub check-tiny : length b < 2 → checkBook b ≡ broken 1 (length b)
   unfolding checkBook
   check-tiny h = rw (lt-ltb _ _ h)
 
-  pub check-edition : 2 ≤ length b → (byte b 0 ≡ 1 → ⊥) → checkBook b ≡ refused 2 0
+  pub check-edition : 2 ≤ length b → (byte b 0 ≡ 1 → ⊥) → checkBook b ≡ broken 2 0
   unfolding checkBook
   check-edition h ne = rw (le-ltb _ _ h, ne-eqb _ _ ne)
 
-  pub check-crowd : {n : ℕ} → 2 ≤ length b → byte b 0 ≡ 1 → n ≡ people b → largest < n → checkBook b ≡ refused 3 1
+  pub check-crowd : {n : ℕ} → 2 ≤ length b → byte b 0 ≡ 1 → n ≡ people b → largest < n → checkBook b ≡ broken 3 1
   unfolding checkBook
   check-crowd h e q m = rw (le-ltb _ _ h, eq-eqb _ _ e, ← q, lt-ltb _ _ m)
 
@@ -43,10 +43,10 @@ module _ {b : List ℕ} {n : ℕ} (O : Opened b n) where
   unfolding checkBook
   rest = rw (le-ltb _ _ (O .long), eq-eqb _ _ (O .edition), ← O .number, le-ltb _ _ (O .few))
 
-  pub check-short : {s : ℕ} → s ≡ size n → length b < s → checkBook b ≡ refused 1 (length b)
+  pub check-short : {s : ℕ} → s ≡ size n → length b < s → checkBook b ≡ broken 1 (length b)
   check-short q h = rw (rest, ← q, lt-ltb _ _ h)
 
-  pub check-long : {s : ℕ} → s ≡ size n → s < length b → checkBook b ≡ refused 4 s
+  pub check-long : {s : ℕ} → s ≡ size n → s < length b → checkBook b ≡ broken 4 s
   check-long {s} q h = let m : s ≤ length b = omega arith in rw (rest, ← q, le-ltb _ _ m, lt-ltb _ _ h)
 
   pub sized : {s : ℕ} → s ≡ size n → s ≤ length b → length b ≤ s → Sized b n
@@ -64,7 +64,7 @@ module _ {b : List ℕ} {n : ℕ} (O : Opened b n) where
         let m : length b ≤ size n = omega (arith, S .long) in
         rw (rest, le-ltb _ _ l, le-ltb _ _ m, ← e)
 
-    pub check-misfiled : k < 2 * n → checkBook b ≡ refused 5 (2 + 4 * k)
+    pub check-misfiled : k < 2 * n → checkBook b ≡ broken 5 (2 + 4 * k)
     check-misfiled h = rw (directory, lt-ltb _ _ h)
 
     pub check-filed : 2 * n ≤ k → checkBook b ≡ checkLists n (entry b) (listLength b) (offset b) (2 * n)

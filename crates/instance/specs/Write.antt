@@ -53,4 +53,4 @@ bookOf n l = 1 ∷ n ∷ (directory n (2 * n) ++ l)
 -- What the buffer holds afterwards: on a refusal what it held, else the book, and past it what it held
 abbrev pub written : Verdict → ℕ → List ℕ → List ℕ → List ℕ
 written fine n l out = bookOf n l ++ drop (size n) out
-written (refused number place) n l out = out
+written (refused number place second) n l out = out

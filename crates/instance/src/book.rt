@@ -10,16 +10,20 @@ use crate::field::wide;
 use crate::lists::first_faulty;
 ghost use mathlib.Core.Path.{_≡_};
 ghost use Prim.Native.Nat.{_+_, _*_};
-ghost use Rattle.instance.specs.Verdict.{refused, verdictOf};
+ghost use Rattle.instance.specs.Verdict.{verdictOf, broken};
 ghost use Rattle.instance.specs.Format.{offset, listLength, entry, size};
 ghost use Rattle.instance.specs.Lists.{firstFaultyList, checkLists};
 ghost use Rattle.instance.specs.Check.{firstMisfiled, checkBook, Sized, Filed};
 
 // A refusal by its number and place.
-pub(crate) fn refuse(number: u8, place: usize) -> Checked
-    ensures { λ r. ⌜ verdictOf r ≡ refused number place ⌝ }
+pub fn refuse(number: u8, place: usize) -> Checked
+    ensures { λ r. ⌜ verdictOf r ≡ broken number place ⌝ }
 {
-    Checked::Refused(Refusal { number, place })
+    Checked::Refused(Refusal {
+        number,
+        place,
+        second: 0,
+    })
 }
 
 // Says whether a book is well formed, or the first rule that it breaks and where.

@@ -6,7 +6,7 @@ ghost use Rattle.instance.specs.Format.{word, offset, listLength, stretc
 ghost use Rattle.instance.specs.Directory.{Listed};
 
 // A byte as a number.
-pub(crate) fn wide(x: u8) -> usize
+pub fn wide(x: u8) -> usize
     ensures { λ r. ⌜ (r ≡ x) × (r < 256) ⌝ }
 {
     x as usize

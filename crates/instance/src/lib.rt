@@ -10,6 +10,9 @@ mod record;
 mod writer;
 
 pub use book::check;
+pub use book::refuse;
+pub use field::wide;
+pub use lists::first_faulty;
 pub use person::check_man;
 pub use person::check_woman;
 pub use person::man_list;
@@ -18,10 +21,12 @@ pub use record::Instance;
 pub use record::Loaded;
 pub use writer::write;
 
-// A broken rule of document 01's table: its number, and the place given.
+// A broken rule of document 01's table: its number, and the place given. Rule 10 has two places; the second place of every other
+// rule is 0.
 pub struct Refusal {
     pub number: u8,
     pub place: usize,
+    pub second: usize,
 }
 
 // The answer of a check.

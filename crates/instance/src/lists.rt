@@ -7,7 +7,7 @@ ghost use Rattle.instance.specs.Lists.{firstFaulty};
 
 // The place of the first entry of the list that is n or more or stands earlier in it, or the list's length.
 // Entries that were met are marked, so that each is looked at once.
-pub(crate) fn first_faulty(list: &[u8], n: usize) -> usize
+pub fn first_faulty(list: &[u8], n: usize) -> usize
     ensures { λ r. ⌜ r ≡ firstFaulty n (byte (now (list .entry))) (length (now (list .entry))) ⌝ }
 {
     let mut marks = [0u8; 256];

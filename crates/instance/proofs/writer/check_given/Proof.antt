@@ -7,7 +7,7 @@ use native.Mathlib.Omega.{arith}
 use lib.Dec.{leb}
 use borrow.Author.Tests.{le-leb, lt-leb}
 use Rattle.laws.specs.Choice.{pick}
-use Rattle.instance.specs.Verdict.{refused}
+use Rattle.instance.specs.Verdict.{refused, broken}
 use Rattle.instance.specs.Faults.{lists-fine}
 use Rattle.instance.specs.Holds.{Stop, stop-place, stop-refused}
 use Rattle.instance.specs.Write.{given, checkGiven}
@@ -59,7 +59,7 @@ wide-requires c κs = search needs
 -- what the contract asks once the faulty entry is read
 refusal : (c : tie.After-wide)
     → checkGiven (c .before .before .before .before .before .before .before .args .n) (c .before .before .before .before .before .before .before .args .lists .now)
-    ≡ refused (pick (leb (c .before .before .before .before .before .before .before .args .n) (c .wide .result)) 6 7) (c .before .before .before .before .before .first-faulty-given .result * c .before .before .before .before .before .before .before .args .n + c .before .before .first-faulty .result)
+    ≡ broken (pick (leb (c .before .before .before .before .before .before .before .args .n) (c .wide .result)) 6 7) (c .before .before .before .before .before .first-faulty-given .result * c .before .before .before .before .before .before .before .args .n + c .before .before .first-faulty .result)
 refusal c = stop-refused (stop (c .before .before)) (λ k. k * c .before .before .before .before .before .before .before .args .n) (c .wide .ensures .0) refl
 
 add-refuse : tie.Need-add-refuse
@@ -69,7 +69,7 @@ refuse-requires : tie.Need-refuse-requires
 refuse-requires c κs = search needs
 
 returns-2 : tie.Need-returns-2
-returns-2 c = c .refuse .ensures ∙ sym (refusal (c .before .before) ∙ ap (λ (t : Bool). refused (pick t 6 7) (c .before .before .before .before .before .before .before .first-faulty-given .result * c .before .before .before .before .before .before .before .before .before .args .n + c .before .before .before .before .first-faulty .result)) (le-leb _ _ (c .before .if2 .taken)))
+returns-2 c = c .refuse .ensures ∙ sym (refusal (c .before .before) ∙ ap (λ (t : Bool). broken (pick t 6 7) (c .before .before .before .before .before .before .before .first-faulty-given .result * c .before .before .before .before .before .before .before .before .before .args .n + c .before .before .before .before .first-faulty .result)) (le-leb _ _ (c .before .if2 .taken)))
 
 add-refuse-2 : tie.Need-add-refuse-2
 add-refuse-2 c = omega (arith, bound (c .before .before .before))
@@ -78,7 +78,7 @@ refuse-requires-2 : tie.Need-refuse-requires-2
 refuse-requires-2 c κs = search needs
 
 returns-3 : tie.Need-returns-3
-returns-3 c = c .refuse2 .ensures ∙ sym (refusal (c .before .before) ∙ ap (λ (t : Bool). refused (pick t 6 7) (c .before .before .before .before .before .before .before .first-faulty-given .result * c .before .before .before .before .before .before .before .before .before .args .n + c .before .before .before .before .first-faulty .result)) (lt-leb _ _ (c .before .if2 .left)))
+returns-3 c = c .refuse2 .ensures ∙ sym (refusal (c .before .before) ∙ ap (λ (t : Bool). broken (pick t 6 7) (c .before .before .before .before .before .before .before .first-faulty-given .result * c .before .before .before .before .before .before .before .before .before .args .n + c .before .before .before .before .first-faulty .result)) (lt-leb _ _ (c .before .if2 .left)))
 
 pub check-given-spec : {M : Type 1} → statement M
 check-given-spec =
