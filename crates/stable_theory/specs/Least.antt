@@ -2,5 +2,6 @@
 pub mod Settle
 pub mod Beaten
 pub mod LeastLaws
+pub mod LeastAlike
 pub mod Optimal
 pub mod StableTest

@@ -6,3 +6,4 @@ pub mod Holder
 pub mod Placed
 pub mod Mirror
 pub mod Lattice
+pub mod Alike
