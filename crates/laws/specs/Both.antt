@@ -22,3 +22,8 @@ both-true e f = rw (e, f)
 pub both-false : (b : Bool) → both b false ≡ false
 both-false true = refl
 both-false false = refl
+
+-- they do not both pass and the first does, so the second fails
+pub both-rest : (b c : Bool) → both b c ≡ false → b ≡ true → c ≡ false
+both-rest true c e f = e
+both-rest false c e f = absurd (clash f refl)

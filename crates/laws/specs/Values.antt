@@ -1,9 +1,13 @@
--- A function on the numbers below a bound, stored as a list: it gives the same values, and each is worked out once. Assumes nothing.
+-- Functions on the numbers below a bound as lists, and back. Assumes nothing.
 use Prim.Native.Nat.{ℕ, zero, suc, _+_, _<_}
 use mathlib.Core.Path.{_≡_, ap, _∙_}
 use mathlib.Core.List.{List, [], _∷_}
 use native.Mathlib.Omega.{arith}
 use lib.ListN.{getD}
+
+-- a list of numbers as a function: 0 past its end
+abbrev pub vec : List ℕ → ℕ → ℕ
+vec l i = getD l i 0
 
 -- f i, f (i + 1), …, k values in all
 abbrev pub values : (ℕ → ℕ) → ℕ → ℕ → List ℕ

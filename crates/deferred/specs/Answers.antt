@@ -1,0 +1,81 @@
+-- The tests that the code computes, and what their answers say. Assumes nothing.
+use Prim.Native.Nat.{ℕ, _≤_, _<_}
+use mathlib.Core.Path.{_≡_, refl}
+use mathlib.Core.Bool.{Bool, true, false}
+use native.Mathlib.Omega.{arith}
+use lib.Dec.{eqb, ltb}
+use borrow.Author.Tests.{eqb-true, eqb-false, lt-ltb, ltb-true, ltb-false}
+use Rattle.laws.specs.Choice.{both}
+use Rattle.laws.specs.First.{clash}
+use Rattle.laws.specs.Both.{both-left, both-right, both-rest}
+use Rattle.stable_theory.specs.Stable.Market.{Side, Market, Proper}
+use Rattle.stable_theory.specs.Stable.Vector.{Holds}
+use Rattle.deferred.specs.Hold.{holds-at, at-holds}
+
+-- member i of a side has a place on his list, and w stands there
+abbrev pub holding : Side → (ℕ → ℕ) → ℕ → ℕ → Bool
+holding s p i w = both (ltb (p i) (s .len i)) (eqb (s .at i (p i)) w)
+
+-- member i of a side has a place on his list, and t at whoever stands there is better than i's rank with her
+abbrev pub losing : Side → (ℕ → ℕ → ℕ) → (ℕ → ℕ) → (ℕ → ℕ) → ℕ → Bool
+losing s rank p t i = both (ltb (p i) (s .len i)) (ltb (t (s .at i (p i))) (rank (s .at i (p i)) i))
+
+-- whether proposer i holds w
+pub record HoldsIs (I : Market) (p : ℕ → ℕ) (i w : ℕ) (answer : Bool) : Type 0 where
+  pub yes : answer ≡ true → Holds I p i w
+  pub no : answer ≡ false → Holds I p i w → ⊥
+
+-- whether proposer i holds a receiver whose best rank is better than his
+pub record BeatenIs (I : Market) (p t : ℕ → ℕ) (i : ℕ) (answer : Bool) : Type 0 where
+  pub yes : answer ≡ true → (w : ℕ) × Holds I p i w × (t w < I .receivers .place w i)
+  pub no : answer ≡ false → (w : ℕ) → Holds I p i w → I .receivers .place w i ≤ t w
+
+module _ {I : Market} (M : Proper I) (p : ℕ → ℕ) {i : ℕ} (u : i < I .proposers .size) where
+  -- who holds a receiver is placed
+  placed-test : {w : ℕ} → Holds I p i w → ltb (p i) (I .proposers .len i) ≡ true
+  placed-test h = lt-ltb (p i) (I .proposers .len i) (omega (arith, h .is, h .pair .lists))
+
+  -- the test on the place says whether i holds w
+  pub holding-is : (w : ℕ) → HoldsIs I p i w (holding (I .proposers) p i w)
+  holding-is w =
+      record {
+        yes = λ e.
+            let y : I .proposers .at i (p i) ≡ w = eqb-true _ _ (both-right (ltb (p i) (I .proposers .len i)) _ e) in
+            rw y at (holds-at M p u (ltb-true _ _ (both-left (ltb (p i) (I .proposers .len i)) _ e)));
+        no = λ e h. eqb-false _ _ (both-rest _ _ e (placed-test h)) (at-holds M h);
+      }
+
+  -- the test on the best rank says whether i is beaten, where `rank` agrees with the market
+  pub losing-is :
+      (rank : ℕ → ℕ → ℕ) (t : ℕ → ℕ) → ((w : ℕ) → w < I .receivers .size → rank w i ≡ I .receivers .place w i) →
+      BeatenIs I p t i (losing (I .proposers) rank p t i)
+  losing-is rank t agrees =
+      record {
+        yes = λ e.
+            let h = holds-at M p u (ltb-true _ _ (both-left (ltb (p i) (I .proposers .len i)) _ e)) in
+            let w = I .proposers .at i (p i) in
+            let l : t w < rank w i = ltb-true _ _ (both-right (ltb (p i) (I .proposers .len i)) _ e) in
+            (w, h, omega (arith, agrees w (h .pair .receiver)));
+        no = λ e w h.
+            let l : rank (I .proposers .at i (p i)) i ≤ t (I .proposers .at i (p i)) =
+            ltb-false _ _ (both-rest _ _ e (placed-test h)) in
+            let l′ : rank w i ≤ t w = rw (at-holds M h) at l in
+            omega (arith, agrees w (h .pair .receiver));
+      }
+
+-- whether w is held by the proposer at her best rank, if anybody has come to her
+pub record HeldIs (I : Market) (p t : ℕ → ℕ) (w : ℕ) (answer : Bool) : Type 0 where
+  pub yes : answer ≡ true → t w < I .receivers .len w → Holds I p (I .receivers .at w (t w)) w
+  pub no : answer ≡ false → (t w < I .receivers .len w → Holds I p (I .receivers .at w (t w)) w) → ⊥
+
+-- it is true where nobody has come to her
+pub held-none : {I : Market} {p t : ℕ → ℕ} {w : ℕ} → I .receivers .len w ≤ t w → HeldIs I p t w true
+held-none l = record { yes = λ e h. absurd (omega arith); no = λ e. absurd (clash refl e) }
+
+-- else it is the test at that proposer
+pub held-some :
+    {I : Market} {p t : ℕ → ℕ} {w : ℕ} (M : Proper I) → w < I .receivers .size → t w < I .receivers .len w →
+    HeldIs I p t w (holding (I .proposers) p (I .receivers .at w (t w)) w)
+held-some {I} {p} {t} {w} M b l =
+    let K = holding-is M p (M .receiving .at-lt b l) w in
+    record { yes = λ e h. K .yes e; no = λ e f. K .no e (f l) }
