@@ -1,4 +1,3 @@
 -- Matchings in the words of document 01: what the contracts of src/ cite. Assumes nothing.
 pub mod BookMarket
-pub mod Matching
-pub mod Extreme
+pub mod Kernel

@@ -1,6 +1,6 @@
 -- Two markets with the same sizes, lists and places, and vectors that agree: what holds in one holds in the other. Assumes nothing.
 use Prim.Native.Nat.{ℕ, _<_}
-use mathlib.Core.Path.{_≡_, sym}
+use mathlib.Core.Path.{_≡_, sym, _∙_, ap}
 use native.Mathlib.Omega.{arith}
 use Rattle.stable_theory.specs.Stable.Market.{Side, Market, Ranked, Mutual, Proper, exchange, Acceptable}
 use Rattle.stable_theory.specs.Stable.Vector.{Within, Holds, Reaches, Settled, Stable, Before, Mirror}
@@ -91,3 +91,40 @@ module _ {I J : Market} (A : Alike I J) {p q : ℕ → ℕ} (e : Same I p q) whe
         there = λ h. holds-alike (alike-exchange A) f (X .there (holds-alike (alike-sym A) (same-alike A e) h));
         back = λ h. holds-alike A e (X .back (holds-alike (alike-exchange (alike-sym A)) (same-alike (alike-exchange A) f) h));
       }
+
+-- lists that are alike are lists alike
+ranked-alike : {s t : Side} {n : ℕ} → AlikeSide s t n → Ranked t n → Ranked s n
+ranked-alike {s} {t} {n} A R =
+    record {
+      at-lt = λ {i} {k} u l. omega (arith, A .at u l, R .at-lt (on u) (far u l));
+      place-at = λ {i} {k} u l.
+          let e = A .at u l in
+          A .place u (omega (arith, R .at-lt (on u) (far u l))) ∙ ap (t .place i) e ∙ R .place-at (on u) (far u l);
+      at-place = λ {i} {w} u v l.
+          let e = A .place u v in
+          A .at u l ∙ ap (t .at i) e ∙ R .at-place (on u) v (omega (arith, A .len u));
+    }
+  where
+    on : {i : ℕ} → i < s .size → i < t .size
+    on u = omega (arith, A .size)
+
+    far : {i k : ℕ} → i < s .size → k < s .len i → k < t .len i
+    far u l = omega (arith, A .len u)
+
+mutual-alike : {s t s′ t′ : Side} → AlikeSide s t (s′ .size) → AlikeSide s′ t′ (s .size) → Mutual t t′ → Mutual s s′
+mutual-alike A B R =
+    record {
+      back = λ {i} {w} u v l.
+          let k = R .back {i = i} {w = w} (omega (arith, A .size)) (omega (arith, B .size)) (omega (arith, A .place u v, A .len u)) in
+          omega (arith, B .place v u, B .len v);
+    }
+
+-- a market that is alike to a well formed one is well formed
+pub proper-alike : {I J : Market} → Alike I J → Proper J → Proper I
+proper-alike {I} {J} A M =
+    record {
+      proposing = ranked-alike (A .proposing) (rw (A .receiving .size) (M .proposing));
+      receiving = ranked-alike (A .receiving) (rw (A .proposing .size) (M .receiving));
+      there = mutual-alike (A .proposing) (A .receiving) (M .there);
+      back = mutual-alike (A .receiving) (A .proposing) (M .back);
+    }
