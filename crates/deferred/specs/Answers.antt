@@ -10,11 +10,11 @@ use Rattle.laws.specs.First.{clash}
 use Rattle.laws.specs.Both.{both-left, both-right, both-rest}
 use Rattle.stable_theory.specs.Stable.Market.{Side, Market, Proper}
 use Rattle.stable_theory.specs.Stable.Vector.{Holds}
-use Rattle.deferred.specs.Hold.{holds-at, at-holds}
+use Rattle.stable_theory.specs.Stable.Holding.{held-at, hold-at}
 
 -- member i of a side has a place on his list, and w stands there
-abbrev pub holding : Side → (ℕ → ℕ) → ℕ → ℕ → Bool
-holding s p i w = both (ltb (p i) (s .len i)) (eqb (s .at i (p i)) w)
+abbrev pub standing : Side → (ℕ → ℕ) → ℕ → ℕ → Bool
+standing s p i w = both (ltb (p i) (s .len i)) (eqb (s .at i (p i)) w)
 
 -- member i of a side has a place on his list, and t at whoever stands there is better than i's rank with her
 abbrev pub losing : Side → (ℕ → ℕ → ℕ) → (ℕ → ℕ) → (ℕ → ℕ) → ℕ → Bool
@@ -36,13 +36,15 @@ module _ {I : Market} (M : Proper I) (p : ℕ → ℕ) {i : ℕ} (u : i < I .pro
   placed-test h = lt-ltb (p i) (I .proposers .len i) (omega (arith, h .is, h .pair .lists))
 
   -- the test on the place says whether i holds w
-  pub holding-is : (w : ℕ) → HoldsIs I p i w (holding (I .proposers) p i w)
-  holding-is w =
+  pub standing-is : (w : ℕ) → HoldsIs I p i w (standing (I .proposers) p i w)
+  standing-is w =
       record {
         yes = λ e.
-            let y : I .proposers .at i (p i) ≡ w = eqb-true _ _ (both-right (ltb (p i) (I .proposers .len i)) _ e) in
-            rw y at (holds-at M p u (ltb-true _ _ (both-left (ltb (p i) (I .proposers .len i)) _ e)));
-        no = λ e h. eqb-false _ _ (both-rest _ _ e (placed-test h)) (at-holds M h);
+            let z = both-left (ltb (p i) (I .proposers .len i)) _ e in
+            let z′ = both-right (ltb (p i) (I .proposers .len i)) _ e in
+            let y : I .proposers .at i (p i) ≡ w = eqb-true _ _ z′ in
+            rw y at (hold-at M p u (ltb-true _ _ z));
+        no = λ e h. eqb-false _ _ (both-rest _ _ e (placed-test h)) (held-at M h);
       }
 
   -- the test on the best rank says whether i is beaten, where `rank` agrees with the market
@@ -52,14 +54,16 @@ module _ {I : Market} (M : Proper I) (p : ℕ → ℕ) {i : ℕ} (u : i < I .pro
   losing-is rank t agrees =
       record {
         yes = λ e.
-            let h = holds-at M p u (ltb-true _ _ (both-left (ltb (p i) (I .proposers .len i)) _ e)) in
+            let z = both-left (ltb (p i) (I .proposers .len i)) _ e in
+            let z′ = both-right (ltb (p i) (I .proposers .len i)) _ e in
+            let h = hold-at M p u (ltb-true _ _ z) in
             let w = I .proposers .at i (p i) in
-            let l : t w < rank w i = ltb-true _ _ (both-right (ltb (p i) (I .proposers .len i)) _ e) in
+            let l : t w < rank w i = ltb-true _ _ z′ in
             (w, h, omega (arith, agrees w (h .pair .receiver)));
         no = λ e w h.
             let l : rank (I .proposers .at i (p i)) i ≤ t (I .proposers .at i (p i)) =
             ltb-false _ _ (both-rest _ _ e (placed-test h)) in
-            let l′ : rank w i ≤ t w = rw (at-holds M h) at l in
+            let l′ : rank w i ≤ t w = rw (held-at M h) at l in
             omega (arith, agrees w (h .pair .receiver));
       }
 
@@ -75,7 +79,7 @@ held-none l = record { yes = λ e h. absurd (omega arith); no = λ e. absurd (cl
 -- else it is the test at that proposer
 pub held-some :
     {I : Market} {p t : ℕ → ℕ} {w : ℕ} (M : Proper I) → w < I .receivers .size → t w < I .receivers .len w →
-    HeldIs I p t w (holding (I .proposers) p (I .receivers .at w (t w)) w)
+    HeldIs I p t w (standing (I .proposers) p (I .receivers .at w (t w)) w)
 held-some {I} {p} {t} {w} M b l =
-    let K = holding-is M p (M .receiving .at-lt b l) w in
+    let K = standing-is M p (M .receiving .at-lt b l) w in
     record { yes = λ e h. K .yes e; no = λ e f. K .no e (f l) }

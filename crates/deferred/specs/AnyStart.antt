@@ -9,12 +9,12 @@ use Rattle.stable_theory.specs.Stable.Market.{Market, Proper}
 use Rattle.stable_theory.specs.Stable.Vector.{Within, Holds, Reaches, Settled, Stable, Before, Mirror}
 use Rattle.stable_theory.specs.Least.Settle.{least}
 use Rattle.stable_theory.specs.Stable.Lattice.{stable-below}
-use Rattle.stable_theory.specs.Least.LeastLaws.{least-least}
-use Rattle.deferred.specs.Hold.{beaten-on}
+use Rattle.stable_theory.specs.Least.LeastLaws.{least-least, least-unique}
+use Rattle.stable_theory.specs.Least.Beaten.{step-sound}
 use Rattle.deferred.specs.Answers.{BeatenIs, HeldIs}
 use Rattle.deferred.specs.Best.{Best}
 use Rattle.deferred.specs.Turn.{Ready, Ran, ready-turns}
-use Rattle.deferred.specs.Settling.{Settling, settled-end, settling-turns, turns-after, least-only}
+use Rattle.deferred.specs.Settling.{Settling, settled-end, settling-turns, turns-after}
 use Rattle.deferred.specs.Whole.{Whole, whole-stable, whole-mirror, stable-whole}
 use Rattle.deferred.specs.Gap.{None}
 
@@ -97,15 +97,22 @@ module _ {I : Market} (M : Proper I) {q : ℕ → ℕ} {i : ℕ} {p t : ℕ → 
   below-beaten : BeatenIs I p t i true → Settling I q (i + 1) p t i
   below-beaten K =
       let S = N .settling in
+      let w = K .yes refl .0 in
       let h = K .yes refl .1 in
       let b = K .yes refl .2 in
-      let l : t (K .yes refl .0) < I .receivers .len (K .yes refl .0) = omega (arith, h .pair .listed) in
+      let l : t w < I .receivers .len w = omega (arith, h .pair .listed) in
       record {
         best = S .best;
         calm = λ u n k. S .calm (omega arith) (λ e. let v = k .pair .proposer in omega arith) k;
         ahead = S .ahead;
-        next = λ r R le u. beaten-on M R (S .ahead r R le) h (S .best .come (h .pair .receiver) l)
-            (omega (arith, M .receiving .place-at (h .pair .receiver) l));
+        next = λ r R le u. step-sound (S .ahead r R le) R
+            (record {
+              receiver = w;
+              rival = I .receivers .at w (t w);
+              holds = h;
+              reaches = S .best .come (h .pair .receiver) l;
+              above = omega (arith, M .receiving .place-at (h .pair .receiver) l);
+            });
       }
 
   -- his turn may be taken
@@ -137,7 +144,7 @@ module _ {I : Market} (M : Proper I) {q p t : ℕ → ℕ} {answer : Bool} where
       let S = N .settling in
       let P = settled-end (N .left) S (omega arith) in
       record {
-        least = least-only M W P (N .after) (S .ahead);
+        least = least-unique M W P (N .after) (S .ahead);
         settled = P;
         best = S .best;
         stable = λ e. whole-stable M S (omega arith) (N .left) (K .yes e);

@@ -8,7 +8,6 @@ use native.Mathlib.Omega.{arith}
 use Rattle.laws.specs.Choice.{split, same}
 use Rattle.stable_theory.specs.Stable.Market.{Market, Proper, Acceptable, exchange}
 use Rattle.stable_theory.specs.Stable.Vector.{Within}
-use Rattle.deferred.specs.Hold.{at-rank}
 
 -- t is the best rank of those who have come, C saying who has come to whom
 pub record Best (I : Market) (C : ℕ → ℕ → Type 0) (t : ℕ → ℕ) : Type 0 where
@@ -46,6 +45,11 @@ best-same B e more only =
       low = λ {j} {w = v} d. omega (arith, e v, B .low (only j v d));
       come = λ {w = v} b l. rw (e v) (more _ v (B .come b (omega (arith, e v))));
     }
+
+-- the proposer at the place of i on a receiver's list is i
+pub at-rank :
+    {I : Market} {i w : ℕ} → Proper I → Acceptable I i w → I .receivers .at w (I .receivers .place w i) ≡ i
+at-rank M u = M .receiving .at-place (u .receiver) (u .proposer) (u .listed)
 
 module _ {I : Market} (M : Proper I) {C D : ℕ → ℕ → Type 0} {i w : ℕ} {t t′ : ℕ → ℕ} where
   -- a visit keeps the best ranks right

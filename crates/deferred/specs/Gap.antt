@@ -9,8 +9,8 @@ use Rattle.laws.specs.Choice.{same}
 use Rattle.stable_theory.specs.Stable.Market.{Market, Proper}
 use Rattle.stable_theory.specs.Stable.Vector.{Holds, Reaches, Stable, Before}
 use Rattle.stable_theory.specs.Stable.Lattice.{held-back, placed-too}
-use Rattle.deferred.specs.Hold.{holds-same, holds-one, holds-at, at-rank}
-use Rattle.deferred.specs.Best.{visit-le}
+use Rattle.stable_theory.specs.Stable.Holding.{held-unique, hold-at, hold-same}
+use Rattle.deferred.specs.Best.{visit-le, at-rank}
 use Rattle.deferred.specs.Turn.{Onward, Came, Turn, Turns, onward-le, turn-onward, off, worse, free, last, displaced, stop, turn}
 use Rattle.deferred.specs.Settling.{Settling, settling-turn}
 use Rattle.deferred.specs.Whole.{Whole}
@@ -42,7 +42,7 @@ module _ {I : Market} (M : Proper I) {f q : ℕ → ℕ} (F : Stable I f) {g : �
   off-none O end r R le =
       let u = O .proposer in
       let l : f c < I .proposers .len c = omega (arith, G .after c, O .placed) in
-      let h = placed-too M F R (holds-at M f u l) in
+      let h = placed-too M F R (hold-at M f u l) in
       omega (arith, h .1 .is, h .1 .pair .lists, O .up, S .next r (R .settled) le u)
 
   -- nor where c comes to a receiver who is free in f
@@ -61,7 +61,7 @@ module _ {I : Market} (M : Proper I) {f q : ℕ → ℕ} (F : Stable I f) {g : �
   -- and whoever holds another receiver by her best rank holds her
   held-on :
       {w : ℕ} → Onward I p c p′ → w < I .receivers .size → (w ≡ g → ⊥) → t w < I .receivers .len w → Holds I p′ (I .receivers .at w (t w)) w
-  held-on O b n l = holds-same p′ (O .others _ (G .apart b n l)) (G .held b n l)
+  held-on O b n l = hold-same p p′ (O .others _ (G .apart b n l)) (G .held b n l)
 
   module _ {t′ : ℕ → ℕ} where
     -- the receiver w who takes c is held by him at her best rank
@@ -114,7 +114,7 @@ module _ {I : Market} (M : Proper I) {f q : ℕ → ℕ} (F : Stable I f) {g : �
         (λ v b n l. held-took C rank b (λ z. absurd (n z)) l)
         (λ v b n l z.
         let k = held-took C rank b (λ y. absurd (n y)) l in
-        let y : v ≡ w = holds-one M (rw z at k) h in
+        let y : v ≡ w = held-unique M (rw z at k) h in
         let y′ : c ≡ x = holds-one-back v y z in
         omega (arith, ap (I .receivers .place w) (y′ ∙ e), M .receiving .place-at (h .pair .receiver) some))
       where

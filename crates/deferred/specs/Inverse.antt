@@ -5,13 +5,11 @@ use mathlib.Core.Path.{_≡_, sym, _∙_, ap}
 use mathlib.Core.List.{List}
 use native.Mathlib.Omega.{arith}
 use lib.ListN.{length}
-use borrow.Author.Tests.{ne-eqb}
 use Rattle.laws.specs.Choice.{split}
-use Rattle.laws.specs.First.{scan-end}
-use Rattle.laws.specs.Values.{vec}
 use Rattle.laws.specs.Table.{cell}
 use Rattle.stable_theory.specs.Stable.Market.{Ranked, Mutual}
-use Rattle.deferred.specs.Lists.{Stored, Agrees, Tables, placeOf, sideOf, stands, place-first, ranked-of}
+use Rattle.laws.specs.Values.{vec}
+use Rattle.deferred.specs.Lists.{Stored, Agrees, Tables, sideOf, place-first, place-none, ranked-of}
 
 -- The rank table inverts the lists: the rank of whoever stands at place k is k, whoever has a rank below the list's length stands
 -- there, and whoever is not on the list has that length for a rank
@@ -34,17 +32,11 @@ module _ {size others : ℕ} {lens lists ranks : List ℕ} (N : Inverse size oth
   inverse-ranked T = ranked-of size others lens lists T inverse-once
 
   -- whoever has the list's length for a rank is not on it
-  place-none :
-      (i w : ℕ) → i < size → cell ranks others i w ≡ vec lens i → placeOf others lens lists i w ≡ vec lens i
-  unfolding placeOf
-  place-none i w u e =
-      scan-end (stands others lists i w)
-      (record {
-        within = omega arith;
-        fails = λ k v. ne-eqb (cell lists others i k) w
-            (λ z. omega (arith, N .there {i = i} {k = k} u v, ap (cell ranks others i) z));
-      })
-      (omega arith)
+  inverse-none :
+      (i w : ℕ) → i < size → cell ranks others i w ≡ vec lens i → sideOf size others lens lists .place i w ≡ vec lens i
+  inverse-none i w u e =
+      place-none size others lens lists i w
+      (λ k v z. omega (arith, N .there {i = i} {k = k} u v, ap (cell ranks others i) z))
 
   -- the rank table agrees with the lists' places
   pub inverse-agrees : Agrees (sideOf size others lens lists) others ranks
@@ -53,9 +45,9 @@ module _ {size others : ℕ} {lens lists ranks : List ℕ} (N : Inverse size oth
         rank = λ {i} {w} u v.
             let r = cell ranks others i w in
             split (vec lens i) r
-            (λ h. let e : r ≡ vec lens i = omega (arith, N .top u v) in e ∙ sym (place-none i w u e))
+            (λ h. let e : r ≡ vec lens i = omega (arith, N .top u v) in e ∙ sym (inverse-none i w u e))
             (λ h. sym (place-first size others lens lists i r h (λ l k. inverse-once i r l u k h)) ∙
-            ap (placeOf others lens lists i) (N .back u v h));
+            ap (sideOf size others lens lists .place i) (N .back u v h));
       }
 
 module _ {a b : ℕ} {plens plists pranks rlens rlists rranks : List ℕ} (P : Inverse a b plens plists pranks) (R : Inverse b a rlens rlists rranks) where

@@ -1,7 +1,6 @@
 -- Deferred acceptance: the market of lists, the turns of a chain and their invariants, and what the two entries promise. Assumes nothing.
 pub mod Lists
 pub mod Inverse
-pub mod Hold
 pub mod Answers
 pub mod Best
 pub mod Turn

@@ -7,7 +7,7 @@ use native.Mathlib.Omega.{arith}
 use Rattle.laws.specs.Choice.{split, same}
 use Rattle.stable_theory.specs.Stable.Market.{Market, Proper}
 use Rattle.stable_theory.specs.Stable.Vector.{Reaches}
-use Rattle.deferred.specs.Hold.{listed-at}
+use Rattle.stable_theory.specs.Stable.Holding.{accept-at}
 use Rattle.deferred.specs.Best.{Best, Visited, best-same, best-visit}
 
 -- j reaches w under p, and the pass has come by there when it is at place k of proposer i
@@ -54,7 +54,7 @@ module _ {I : Market} (M : Proper I) {p t t′ : ℕ → ℕ} {i k w : ℕ} wher
       i < I .proposers .size → k < I .proposers .len i → k ≤ p i → w ≡ I .proposers .at i k →
       Best I (Passed I p i k) t → Visited I i w t t′ → Best I (Passed I p i (k + 1)) t′
   pass-visit u l up e B S =
-      let pair = listed-at M u l in
+      let pair = accept-at M u l in
       let z = M .proposing .place-at u l in
       best-visit M (rw e pair) B S
       (record {

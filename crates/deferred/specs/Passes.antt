@@ -4,8 +4,8 @@ use Prim.Native.Nat.{ℕ, _+_, _≤_, _<_, min}
 use mathlib.Core.Path.{_≡_, _∙_}
 use mathlib.Core.List.{List}
 use native.Mathlib.Omega.{arith}
-use Rattle.laws.specs.Values.{vec}
 use Rattle.laws.specs.Table.{cell}
+use Rattle.laws.specs.Values.{vec}
 use Rattle.deferred.specs.Lists.{Tables, marketOf}
 use Rattle.deferred.specs.Best.{Best, Lowered}
 use Rattle.deferred.specs.Pass.{Passed, pass-visit, pass-row}

@@ -1,17 +1,18 @@
 -- A proposer pushed on from a stable vector: what the code answers, and the proof that a chain of turns gives it. Assumes nothing.
-use Prim.Native.Nat.{ℕ, suc, _≤_, _<_}
+use Prim.Native.Nat.{ℕ, _≤_, _<_}
 use mathlib.Core.Path.{_≡_, refl, _∙_, ap}
 use mathlib.Core.Bool.{Bool, true, false}
 use native.Mathlib.Omega.{arith}
-use borrow.Author.Tests.{eq-eqb, ne-eqb}
-use Rattle.laws.specs.Choice.{same}
 use Rattle.laws.specs.First.{clash}
 use Rattle.stable_theory.specs.Stable.Market.{Market, Proper}
-use Rattle.stable_theory.specs.Stable.Vector.{Within, Stable, Mirror}
+use Rattle.stable_theory.specs.Stable.Vector.{Stable, Mirror}
 use Rattle.stable_theory.specs.Least.Settle.{least, onward}
-use Rattle.deferred.specs.Hold.{holds-at, holds-one, at-rank}
+use Rattle.stable_theory.specs.Least.Beaten.{onward-here, onward-after, onward-before, onward-within}
+use Rattle.stable_theory.specs.Least.LeastLaws.{least-unique}
+use Rattle.stable_theory.specs.Stable.Holding.{held-unique, hold-at}
+use Rattle.deferred.specs.Best.{at-rank}
 use Rattle.deferred.specs.Turn.{Turns, Ready, turn-onward, ready-turns, stop, turn}
-use Rattle.deferred.specs.Settling.{Settling, settled-end, settling-turns, turns-after, least-only}
+use Rattle.deferred.specs.Settling.{Settling, settled-end, settling-turns, turns-after}
 use Rattle.deferred.specs.Whole.{whole-stable, whole-mirror, mirror-best, mirror-whole}
 use Rattle.deferred.specs.Gap.{None, Chain, chain-turns, chain-done, chain-stuck, going}
 
@@ -28,26 +29,6 @@ pub record Pushable (I : Market) (p t : ℕ → ℕ) (s : ℕ) : Type 0 where
   pub stable : Stable I p
   pub mirror : Mirror I p t
   pub proposer : s < I .proposers .size
-
-module _ (p : ℕ → ℕ) (s : ℕ) where
-  -- the one who is pushed is one place further on
-  onward-here : onward p s s ≡ suc (p s)
-  unfolding onward
-  onward-here = rw (eq-eqb s s refl)
-
-  -- nobody else is
-  onward-other : (l : ℕ) → (l ≡ s → ⊥) → onward p s l ≡ p l
-  unfolding onward
-  onward-other l n = rw (ne-eqb l s n)
-
-  -- a vector at or after p, and strictly after it at s, is at or after the start
-  onward-least : (r : ℕ → ℕ) → ((l : ℕ) → p l ≤ r l) → p s < r s → (l : ℕ) → onward p s l ≤ r l
-  onward-least r le up l =
-      same l s (λ e. rw e (omega (arith, onward-here))) (λ n. omega (arith, onward-other l n, le l))
-
-  -- the start is at or after p
-  onward-most : (l : ℕ) → p l ≤ onward p s l
-  onward-most l = same l s (λ e. rw e (omega (arith, onward-here))) (λ n. omega (arith, onward-other l n))
 
 -- a row of turns of a proposer to its end pushes him on
 pub turns-push :
@@ -81,21 +62,13 @@ module _ {I : Market} (M : Proper I) {p t : ℕ → ℕ} {s : ℕ} (P : Pushable
   pub push-ready : Ready I p t s
   push-ready = record { left = P .mirror .left; right = P .mirror .right; placed = λ l. u }
 
-  -- the start is within its bounds
-  push-within : Within I (onward p s)
-  push-within =
-      record {
-        bound = λ {i} l. same i s (λ e. rw e (omega (arith, onward-here p s)))
-            (λ n. omega (arith, onward-other p s i n, P .mirror .left .bound l));
-      }
-
   -- the invariant of deferred acceptance holds where the chain begins
   push-settling : Settling I (onward p s) (I .proposers .size) p t s
   push-settling =
       record {
         best = mirror-best M (P .stable) (P .mirror);
         calm = λ l n h. omega (arith, P .mirror .there h .is);
-        ahead = λ r R le l v. omega (arith, le l v, onward-most p s l);
+        ahead = λ r R le l v. omega (arith, le l v, onward-after I p s l v);
         next = λ r R le v. omega (arith, le s v, onward-here p s);
       }
 
@@ -103,7 +76,7 @@ module _ {I : Market} (M : Proper I) {p t : ℕ → ℕ} {s : ℕ} (P : Pushable
   push-chain : Chain I p (onward p s) (gap) p t s
   unfolding gap
   push-chain =
-      let h = holds-at M p (P .proposer) u in
+      let h = hold-at M p (P .proposer) u in
       let z = P .mirror .there h in
       let e = ap (I .receivers .at gap) (z .is) ∙ at-rank M (h .pair) in
       going (P .proposer)
@@ -113,7 +86,7 @@ module _ {I : Market} (M : Proper I) {p t : ℕ → ℕ} {s : ℕ} (P : Pushable
         passed = rw e (omega (arith, h .is));
         past = λ n. absurd (n e);
         held = λ b n l. mirror-whole M (P .mirror) .held b l;
-        apart = λ b n l f. n (holds-one M (rw f at (mirror-whole M (P .mirror) .held b l)) h);
+        apart = λ b n l f. n (held-unique M (rw f at (mirror-whole M (P .mirror) .held b l)) h);
       })
 
   module _ {p′ t′ : ℕ → ℕ} {x : ℕ} (R : Turns I p t s p′ t′ x) where
@@ -125,8 +98,8 @@ module _ {I : Market} (M : Proper I) {p t : ℕ → ℕ} {s : ℕ} (P : Pushable
         let W = chain-done (chain-turns M (P .stable) push-settling push-chain R) e in
         let L = ready-turns push-ready R .left in
         record {
-          least = λ z. least-only M push-within (settled-end L S v)
-              (λ l k. onward-least p s p′ (turns-after R) (turns-push R (P .proposer) v) l) (S .ahead);
+          least = λ z. least-unique M (onward-within s u (P .mirror .left)) (settled-end L S v)
+              (onward-before I p p′ s (turns-push R (P .proposer) v) (λ l k. turns-after R l)) (S .ahead);
           stable = λ z. whole-stable M S v L W;
           mirror = λ z. whole-mirror M S v L W;
           none = λ z. absurd (clash refl z);

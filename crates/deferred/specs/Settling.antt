@@ -7,10 +7,9 @@ use native.Mathlib.Omega.{arith}
 use Rattle.laws.specs.Choice.{split, same}
 use Rattle.stable_theory.specs.Stable.Market.{Market, Proper}
 use Rattle.stable_theory.specs.Stable.Vector.{Within, Holds, Reaches, Settled, Before}
-use Rattle.stable_theory.specs.Least.Settle.{least}
-use Rattle.stable_theory.specs.Least.LeastLaws.{least-settled, least-after, least-least}
-use Rattle.deferred.specs.Hold.{holds-reaches, holds-same, holds-one, at-rank, beaten-on, reaches-on}
-use Rattle.deferred.specs.Best.{Best}
+use Rattle.stable_theory.specs.Stable.Holding.{held-unique, hold-same, reach, reach-on}
+use Rattle.stable_theory.specs.Least.Beaten.{step-sound}
+use Rattle.deferred.specs.Best.{Best, at-rank}
 use Rattle.deferred.specs.Turn.{Onward, Came, Turn, Turns, onward-le, turn-onward, turn-keeps, off, worse, free, last, displaced, stop, turn}
 
 -- the invariant: c is the one to go on, or no proposer
@@ -29,7 +28,7 @@ module _ {I : Market} (M : Proper I) {q : ℕ → ℕ} {k : ℕ} {p t : ℕ → 
 
   -- whoever but c holds a receiver after a step on of c held her before
   held-before : {i v : ℕ} → Onward I p c p′ → (i ≡ c → ⊥) → Holds I p′ i v → Holds I p i v
-  held-before {i} O n h = holds-same p (sym (O .others i n)) h
+  held-before {i} O n h = hold-same p′ p (sym (O .others i n)) h
 
   -- whoever has the best rank of a receiver is the one at that place of her list
   at-best : {i w : ℕ} → Holds I p′ i w → I .receivers .place w i ≡ t w → i ≡ I .receivers .at w (t w)
@@ -42,11 +41,11 @@ module _ {I : Market} (M : Proper I) {q : ℕ → ℕ} {k : ℕ} {p t : ℕ → 
         (Holds I p′ i w → I .receivers .place w i ≡ t w → ⊥) → I .receivers .place v i ≤ t′ v
     calm-took {i} {v} {w} C r u h gone =
         same i c
-        (λ e. let f : v ≡ w = holds-one M h (rw e (C .holds)) in rw (e, f) (let b = C .visited .better in omega arith))
+        (λ e. let f : v ≡ w = held-unique M h (rw e (C .holds)) in rw (e, f) (let b = C .visited .better in omega arith))
         (λ n. let g = held-before (C .onward) n h in
         let l = S .calm u n g in
         same v w
-        (λ e. let l′ = S .best .low (holds-reaches g) in
+        (λ e. let l′ = S .best .low (reach g) in
         absurd (gone (rw e at h) (rw e at (let z : I .receivers .place v i ≡ t v = omega arith in z))))
         (λ m. omega (arith, C .visited .others v m)))
 
@@ -79,9 +78,14 @@ module _ {I : Market} (M : Proper I) {q : ℕ → ℕ} {k : ℕ} {p t : ℕ → 
         (λ h. let e : t w ≡ I .receivers .place w c = omega arith in
         let d′ : Reaches I p c w = rw (ap (I .receivers .at w) e ∙ at-rank M u) at d in
         absurd (omega (arith, d′ .upto, C .holds .is, C .onward .up)))
-        (λ h. beaten-on M R (ahead-on (C .onward) r R le) (C .holds)
-        (reaches-on p′ (onward-le (C .onward) (I .receivers .at w (t w))) d)
-        (omega (arith, M .receiving .place-at (u .receiver) l)))
+        (λ h. step-sound (ahead-on (C .onward) r R le) R
+        (record {
+          receiver = w;
+          rival = I .receivers .at w (t w);
+          holds = C .holds;
+          reaches = reach-on p p′ (λ l u. onward-le (C .onward) l) d;
+          above = omega (arith, M .receiving .place-at (u .receiver) l);
+        }))
 
     -- after a turn every settled vector at or after the start is strictly after it at the one to go on
     next-turn : {x : ℕ} → Turn I p t c p′ t′ x → (r : ℕ → ℕ) → Settled I r → Before I q r → x < I .proposers .size → p′ x < r x
@@ -90,8 +94,8 @@ module _ {I : Market} (M : Proper I) {q : ℕ → ℕ} {k : ℕ} {p t : ℕ → 
     next-turn (free C none e) r R le u = absurd (omega arith)
     next-turn (last C rank some gone e) r R le u = absurd (omega arith)
     next-turn (displaced {w} C rank some h e) r R le u =
-        beaten-on M R (ahead-on (C .onward) r R le) h (holds-reaches (C .holds))
-        (omega (arith, ap (I .receivers .place w) e, M .receiving .place-at (h .pair .receiver) some))
+        step-sound (ahead-on (C .onward) r R le) R
+        (record { receiver = w; rival = c; holds = h; reaches = reach (C .holds); above = omega (arith, ap (I .receivers .place w) e, M .receiving .place-at (h .pair .receiver) some) })
 
     -- every turn keeps the invariant
     pub settling-turn : {x : ℕ} → Turn I p t c p′ t′ x → Settling I q k p′ t′ x
@@ -123,11 +127,3 @@ module _ {I : Market} {q p t : ℕ → ℕ} {c : ℕ} where
         within = L;
         best = λ {i} h d. omega (arith, S .calm (h .pair .proposer) (λ e. let l = h .pair .proposer in omega arith) h, S .best .low d);
       }
-
-module _ {I : Market} (M : Proper I) {q p : ℕ → ℕ} where
-  -- a settled vector at or after q, and at or before every such vector, is the least one
-  pub least-only :
-      Within I q → Settled I p → Before I q p → ((r : ℕ → ℕ) → Settled I r → Before I q r → Before I p r) →
-      (i : ℕ) → i < I .proposers .size → p i ≡ least I q i
-  least-only W P le low i u =
-      omega (arith, low (least I q) (least-settled M W) (least-after M q) i u, least-least M W P le i u)

@@ -7,12 +7,12 @@ use mathlib.Core.List.{List}
 use native.Mathlib.Omega.{arith}
 use lib.ListN.{length, set, length-set}
 use lib.Seq.{getD-set-same, getD-set-other}
-use Rattle.laws.specs.Values.{vec}
 use Rattle.laws.specs.Table.{cell, cell-lt}
 use Rattle.stable_theory.specs.Stable.Vector.{Holds}
+use Rattle.laws.specs.Values.{vec}
 use Rattle.deferred.specs.Lists.{Stored, Tables, Sized, sideOf, marketOf}
-use Rattle.deferred.specs.Hold.{holds-at}
-use Rattle.deferred.specs.Answers.{holding, holding-is}
+use Rattle.stable_theory.specs.Stable.Holding.{hold-at}
+use Rattle.deferred.specs.Answers.{standing, standing-is}
 use Rattle.deferred.specs.Best.{Visited}
 use Rattle.deferred.specs.Turn.{Onward, Came, Turn, Turns, Ready, turn-more, ready-turn, off, worse, free, last, displaced}
 
@@ -98,7 +98,7 @@ module _ {a b : ℕ} {plens plists rlens rlists ranks : List ℕ} (T : Tables a 
       step-holds : Holds (marketOf a b plens plists rlens rlists) (vec (set p c (x + 1))) c w
       step-holds =
           rw (ap (cell plists b c) up ∙ sym ew) at
-          (holds-at (T .proper) (vec (set p c (x + 1))) u (omega (arith, up)))
+          (hold-at (T .proper) (vec (set p c (x + 1))) u (omega (arith, up)))
 
       -- the return where she does not take c
       pub step-worse :
@@ -134,16 +134,16 @@ module _ {a b : ℕ} {plens plists rlens rlists ranks : List ℕ} (T : Tables a 
 
           -- the return where he holds her still
           pub step-displaced :
-              holding (sideOf a b plens plists) (vec (set p c (x + 1))) j w ≡ true →
+              standing (sideOf a b plens plists) (vec (set p c (x + 1))) j w ≡ true →
               Turn (marketOf a b plens plists rlens rlists) (vec p) (vec t) c (vec (set p c (x + 1))) (vec (set t w r)) j
           step-displaced e =
               displaced step-took (omega (arith, T .agrees .rank came-receiver u)) some
-              (holding-is (T .proper) (vec (set p c (x + 1))) displaced-proposer w .yes e) displaced-at
+              (standing-is (T .proper) (vec (set p c (x + 1))) displaced-proposer w .yes e) displaced-at
 
           -- the return where he does not
           pub step-last :
-              holding (sideOf a b plens plists) (vec (set p c (x + 1))) j w ≡ false →
+              standing (sideOf a b plens plists) (vec (set p c (x + 1))) j w ≡ false →
               Turn (marketOf a b plens plists rlens rlists) (vec p) (vec t) c (vec (set p c (x + 1))) (vec (set t w r)) a
           step-last e =
               last step-took (omega (arith, T .agrees .rank came-receiver u)) some
-              (λ g. holding-is (T .proper) (vec (set p c (x + 1))) displaced-proposer w .no e (rw (sym displaced-at) at g)) refl
+              (λ g. standing-is (T .proper) (vec (set p c (x + 1))) displaced-proposer w .no e (rw (sym displaced-at) at g)) refl

@@ -8,10 +8,10 @@ use mathlib.Core.Logic.{_⊎_, inl, inr}
 use native.Mathlib.Omega.{arith}
 use Rattle.laws.specs.Choice.{split, same}
 use Rattle.laws.specs.Sum.{sum}
-use Rattle.laws.specs.Rising.{sum-lt}
+use Rattle.laws.specs.SumLaws.{sum-tight}
 use Rattle.stable_theory.specs.Stable.Market.{Market, Proper, exchange}
 use Rattle.stable_theory.specs.Stable.Vector.{Within, Holds, Reaches}
-use Rattle.deferred.specs.Hold.{holds-reaches, reaches-on, holds-one}
+use Rattle.stable_theory.specs.Stable.Holding.{held-unique, reach, reach-on}
 use Rattle.deferred.specs.Best.{Best, Visited, Comes, best-visit, best-same, visit-le}
 
 -- p′ is p with proposer c, who is placed, one place further on
@@ -117,8 +117,8 @@ module _ {I : Market} (M : Proper I) {p : ℕ → ℕ} {c : ℕ} {p′ : ℕ →
   came-comes : {w : ℕ} → Onward I p c p′ → Holds I p′ c w → Comes (Reaches I p) (Reaches I p′) c w
   came-comes {w} O h =
       record {
-        more = λ {j} d. reaches-on p′ (onward-le O j) d;
-        new = holds-reaches h;
+        more = λ {j} d. reach-on p p′ (λ l u. onward-le O l) d;
+        new = reach h;
         only = λ j v d. same j c (λ e. mine j v d e) (λ n. inl (before j v d (omega (arith, O .others j n, d .upto))));
       }
     where
@@ -129,7 +129,7 @@ module _ {I : Market} (M : Proper I) {p : ℕ → ℕ} {c : ℕ} {p′ : ℕ →
       mine j v d e =
           split (I .proposers .place j v) (p j) (λ l. inl (before j v d l))
           (λ l. let k : Holds I p′ j v = record { pair = d .pair; is = omega (arith, d .upto, O .up, ap p e, ap p′ e) } in
-          inr (e, holds-one M k (rw e h)))
+          inr (e, held-unique M k (rw e h)))
 
   -- who reaches whom after a step on to the end of the list: who did before
   off-reaches : Onward I p c p′ → I .proposers .len c ≤ p′ c → (j v : ℕ) → Reaches I p′ j v → Reaches I p j v
@@ -149,7 +149,7 @@ module _ {I : Market} (M : Proper I) {p : ℕ → ℕ} {c : ℕ} {p′ : ℕ →
   -- a turn keeps the best ranks of those who reach each receiver
   pub turn-keeps : {t t′ : ℕ → ℕ} {x : ℕ} → Best I (Reaches I p) t → Turn I p t c p′ t′ x → Best I (Reaches I p′) t′
   turn-keeps B (off O end keep e) =
-      best-same B keep (λ j v d. reaches-on p′ (onward-le O j) d) (off-reaches O end)
+      best-same B keep (λ j v d. reach-on p p′ (λ l u. onward-le O l) d) (off-reaches O end)
   turn-keeps B (worse C rank e) = came-best B C
   turn-keeps B (free C none e) = came-best B C
   turn-keeps B (last C rank some gone e) = came-best B C
@@ -171,8 +171,11 @@ pub turn-less :
     {I : Market} {p t : ℕ → ℕ} {c : ℕ} {p′ t′ : ℕ → ℕ} {x : ℕ} → Turn I p t c p′ t′ x → left I p′ < left I p
 turn-less {I} {p} {c = c} {p′} T =
     let O = turn-onward T in
-    sum-lt (I .proposers .size) (λ i. I .proposers .len i - p′ i) (λ i. I .proposers .len i - p i)
-    (λ i u. omega (arith, onward-le O i)) c (O .proposer) (omega (arith, O .up, O .placed))
+    let f : ℕ → ℕ = λ i. I .proposers .len i - p′ i in
+    let g : ℕ → ℕ = λ i. I .proposers .len i - p i in
+    split (sum (I .proposers .size) g) (sum (I .proposers .size) f)
+    (λ l. absurd (omega (arith, O .up, O .placed, sum-tight (I .proposers .size) f g (λ i u. omega (arith, onward-le O i)) l c (O .proposer))))
+    (λ l. l)
 
 -- A whole chain from c: a row of turns after which no proposer is to go on
 pub record Ran (I : Market) (p t : ℕ → ℕ) (c : ℕ) (p′ t′ : ℕ → ℕ) (x : ℕ) : Type 0 where

@@ -5,8 +5,8 @@ use mathlib.Core.Path.{_≡_, sym, _∙_, ap}
 use native.Mathlib.Omega.{arith}
 use Rattle.stable_theory.specs.Stable.Market.{Market, Proper, exchanged, acceptable-back}
 use Rattle.stable_theory.specs.Stable.Vector.{Within, Holds, Reaches, Stable, Mirror}
-use Rattle.deferred.specs.Hold.{holds-reaches, holds-at, at-rank}
-use Rattle.deferred.specs.Best.{Best}
+use Rattle.stable_theory.specs.Stable.Holding.{hold-at, reach}
+use Rattle.deferred.specs.Best.{Best, at-rank}
 use Rattle.deferred.specs.Settling.{Settling, settled-end}
 
 -- every receiver to whom somebody has come is held by the proposer at her best rank
@@ -18,7 +18,7 @@ module _ {I : Market} (M : Proper I) {q p t : ℕ → ℕ} {c : ℕ} (S : Settli
   holder-best : {i w : ℕ} → Holds I p i w → t w ≡ I .receivers .place w i
   holder-best {i} {w} h =
       let l = h .pair .proposer in
-      omega (arith, S .calm l (λ e. omega arith) h, S .best .low (holds-reaches h))
+      omega (arith, S .calm l (λ e. omega arith) h, S .best .low (reach h))
 
   -- then the vector is stable
   pub whole-stable : Within I p → Whole I p t → Stable I p
@@ -52,7 +52,7 @@ module _ {I : Market} (M : Proper I) {q p t : ℕ → ℕ} {c : ℕ} (S : Settli
 module _ {I : Market} (M : Proper I) {p t : ℕ → ℕ} where
   -- by the other side of a vector every receiver is held so
   pub mirror-whole : Mirror I p t → Whole I p t
-  mirror-whole N = record { held = λ b l. N .back (holds-at (exchanged M) t b l) }
+  mirror-whole N = record { held = λ b l. N .back (hold-at (exchanged M) t b l) }
 
   -- the other side of a stable vector has its best ranks
   pub mirror-best : Stable I p → Mirror I p t → Best I (Reaches I p) t
@@ -60,5 +60,5 @@ module _ {I : Market} (M : Proper I) {p t : ℕ → ℕ} where
       record {
         range = N .right;
         low = λ {j} {w} d. let h = P .held d in omega (arith, N .there (h .1) .is, P .settled .best (h .1) d);
-        come = λ b l. holds-reaches (mirror-whole N .held b l);
+        come = λ b l. reach (mirror-whole N .held b l);
       }

@@ -8,12 +8,12 @@
 ghost use mathlib.Core.Path.{_≡_};
 ghost use Prim.Native.Nat.{ℕ, _+_, _*_, _≤_, _<_, min};
 ghost use lib.ListN.{length};
-ghost use Rattle.laws.specs.Values.{vec};
 ghost use Rattle.laws.specs.Table.{cell};
 ghost use Rattle.stable_theory.specs.Stable.Market.{Proper};
 ghost use Rattle.stable_theory.specs.Stable.Vector.{Within};
+ghost use Rattle.laws.specs.Values.{vec};
 ghost use Rattle.deferred.specs.Lists.{Tables, Stored, Sized, sideOf, marketOf};
-ghost use Rattle.deferred.specs.Answers.{holding, losing, HeldIs};
+ghost use Rattle.deferred.specs.Answers.{standing, losing, HeldIs};
 ghost use Rattle.deferred.specs.Best.{Lowered};
 ghost use Rattle.deferred.specs.Turn.{Turn, Ran, Ready};
 ghost use Rattle.deferred.specs.Push.{Pushable, Pushed};
@@ -39,7 +39,7 @@ pub fn entry(t: &[u16], n: usize, i: usize, j: usize) -> usize
 fn holds(b: usize, plens: &[u16], plists: &[u16], p: &[u16], i: usize, w: usize) -> bool
     requires { ⌜ Stored (length (now p)) b (now plens) (now plists) ⌝ }
     requires { ⌜ i < length (now p) ⌝ }
-    ensures { λ r. ⌜ r ≡ holding (sideOf (length (now (p .entry))) b (now (plens .entry)) (now (plists .entry))) (vec (now (p .entry))) i w ⌝ }
+    ensures { λ r. ⌜ r ≡ standing (sideOf (length (now (p .entry))) b (now (plens .entry)) (now (plists .entry))) (vec (now (p .entry))) i w ⌝ }
 {
     let place = wide(p[i]);
     if wide(plens[i]) <= place {
@@ -117,14 +117,14 @@ fn chain(
 
 // Pushes proposer s on by one place from a stable vector p with its other side t. Where the answer is true, p is the least settled
 // vector at or after, it is stable, and t is its other side; where it is false, no stable vector is at or after, and p and t hold anything.
-pub fn push(
+pub fn push<'a>(
     a: usize,
     b: usize,
-    plens: &[u16],
-    plists: &[u16],
-    rlens: &[u16],
-    rlists: &[u16],
-    ranks: &[u16],
+    plens: &'a [u16],
+    plists: &'a [u16],
+    rlens: &'a [u16],
+    rlists: &'a [u16],
+    ranks: &'a [u16],
     p: &mut [u16],
     t: &mut [u16],
     s: usize,
@@ -146,7 +146,7 @@ pub fn push(
 
 // Sets each best rank to the end of the receiver's list: nobody has come.
 fn clear(b: usize, rlens: &[u16], t: &mut [u16])
-    requires { ⌜ (length (now rlens) ≡ b) × (length (now t) ≡ b) ⌝ }
+    requires { ⌜ (b ≤ length (now rlens)) × (length (now t) ≡ b) ⌝ }
     ensures { λ _. ⌜ ((w : ℕ) → w < b → vec (now (t .exit)) w ≡ vec (now (rlens .entry)) w) ⌝ }
 {
     let mut w = 0;
@@ -328,14 +328,14 @@ fn whole(
 
 // The least settled vector at or after the start p, which is within its bounds: p becomes that vector and t its best ranks.
 // The answer is whether it is stable; then t is its other side.
-pub fn least(
+pub fn least<'a>(
     a: usize,
     b: usize,
-    plens: &[u16],
-    plists: &[u16],
-    rlens: &[u16],
-    rlists: &[u16],
-    ranks: &[u16],
+    plens: &'a [u16],
+    plists: &'a [u16],
+    rlens: &'a [u16],
+    rlists: &'a [u16],
+    ranks: &'a [u16],
     p: &mut [u16],
     t: &mut [u16],
 ) -> bool

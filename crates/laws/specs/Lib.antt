@@ -13,5 +13,6 @@ pub mod Rising
 pub mod Largest
 pub mod Values
 pub mod Table
+pub mod Front
 pub mod Stores
 pub mod Overwrite

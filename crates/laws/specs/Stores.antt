@@ -5,8 +5,7 @@ use mathlib.Core.List.{List}
 use native.Mathlib.Omega.{arith}
 use lib.ListN.{length, getD, set, length-set}
 use lib.Seq.{getD-set-same, getD-set-other}
-use Rattle.laws.specs.Choice.{split, same}
-use Rattle.laws.specs.Values.{vec}
+use Rattle.laws.specs.Choice.{split}
 
 -- The list t is s after the first m stores
 pub record Stores (at m : ℕ) (f g : ℕ → ℕ) (s t : List ℕ) : Type 0 where
@@ -33,11 +32,3 @@ stores-on {at} {m} {f} {g} {s} {t} S {i} {v} e q l new =
           (λ k. getD-set-other t (at + i) (at + f j) v 0 (λ r. new j k (omega arith)) ∙ S .stored k);
       kept = λ p h. getD-set-other t (at + i) p v 0 (λ r. h m (omega arith) (r ∙ ap (λ (x : ℕ). at + x) e)) ∙ S .kept p (λ j u. h j (omega arith));
     }
-
--- what holds of the first w elements holds of one more after the store at w
-pub store-more :
-    (f : ℕ → ℕ) (l : List ℕ) (w x : ℕ) → w < length l → x ≡ f w → ((v : ℕ) → v < w → vec l v ≡ f v) →
-    (v : ℕ) → v < w + 1 → vec (set l w x) v ≡ f v
-store-more f l w x u e h v k =
-    same v w (λ z. ap (vec (set l w x)) z ∙ getD-set-same l w x 0 u ∙ e ∙ ap f (sym z))
-    (λ n. getD-set-other l w v x 0 n ∙ h v (omega arith))

@@ -5,8 +5,7 @@ use mathlib.Core.List.{List}
 use native.Mathlib.Omega.{arith}
 use native.Mathlib.Nat.{mul-le-mul}
 use lib.Dec.{eqb}
-use lib.ListN.{length, getD, take}
-use lib.Seq.{length-take-le, getD-take}
+use lib.ListN.{length}
 use Rattle.laws.specs.First.{first, first-cong}
 use Rattle.laws.specs.Table.{cell}
 use Rattle.laws.specs.Values.{vec}
@@ -18,7 +17,7 @@ use Rattle.instance.specs.Record.{SideTables, Tables, Source}
 use Rattle.instance.specs.Ranks.{length-full, list-lt}
 use Rattle.stable_theory.specs.Stable.Market.{Market, Proper, exchanged}
 use Rattle.stable_theory.specs.Stable.Alike.{AlikeSide, Alike, proper-alike}
-use Rattle.deferred.specs.Lists.{placeOf, stands, sideOf, marketOf, Stored, Agrees, Tables as KernelTables}
+use Rattle.deferred.specs.Lists.{sideOf, marketOf, Stored, Agrees, Tables as KernelTables}
 use Rattle.matching.specs.BookMarket.{sideAt, market, market-proper}
 
 module _ {b lengths lists ranks : List ℕ} {n from : ℕ} (W : WellFormed b) (e : n ≡ people b) (h : from ≤ n) (S : SideTables b n from lengths lists ranks) where
@@ -28,37 +27,36 @@ module _ {b lengths lists ranks : List ℕ} {n from : ℕ} (W : WellFormed b) (e
   square : n * n ≤ largest * largest
   square = let f : n ≤ largest = omega (arith, W .few) in mul-le-mul f f
 
-  lens-at : {i : ℕ} → i < n → vec (take n lengths) i ≡ listLength b (from + i)
-  lens-at {i} u = getD-take n lengths i 0 u ∙ S .length-at u
+  lens-at : {i : ℕ} → i < n → vec lengths i ≡ listLength b (from + i)
+  lens-at {i} u = getD-lengths i 0 u ∙ S .length-at u
 
-  lens-full : {i : ℕ} → i < n → vec (take n lengths) i ≡ n
-  lens-full {i} u = getD-take n lengths i 0 u ∙ length-full source h S u
+  lens-full : {i : ℕ} → i < n → vec lengths i ≡ n
+  lens-full {i} u = getD-lengths i 0 u ∙ length-full source h S u
 
   -- a side's tables are alike to the side
-  pub side-alike : AlikeSide (sideOf n n (take n lengths) lists) (sideAt b from) n
-  unfolding placeOf
+  pub side-alike : AlikeSide (sideOf n n lengths lists) (sideAt b from) n
   side-alike =
       record {
         size = e;
         len = λ u. lens-at u;
         at = λ {i} {k} u l. S .lists-done .cells u (omega (arith, lens-full u));
         place = λ {i} {w} u v.
-            ap (first (stands n lists i w)) (lens-at u)
+            ap (first (λ k. eqb (cell lists n i k) w)) (lens-at u)
             ∙ first-cong (λ k (l : k < listLength b (from + i)). ap (λ (x : ℕ). eqb x w) (S .lists-done .cells u (omega (arith, lens-full u, lens-at u))));
       }
 
   -- and are stored as the kernel needs them
-  pub side-stored : Stored n n (take n lengths) lists
+  pub side-stored : Stored n n lengths lists
   side-stored =
       record {
-        lengths = length-take-le n lengths (omega (arith, S .lengths-long, W .few));
+        lengths = omega (arith, S .lengths-long, W .few);
         short = λ u. omega (arith, lens-full u);
         rows = omega (arith, S .lists-long, square);
         small = λ {i} {k} u l. list-lt source h S u (omega (arith, lens-full u));
       }
 
   -- the rank table agrees with the side
-  pub side-agrees : Agrees (sideOf n n (take n lengths) lists) n ranks
+  pub side-agrees : Agrees (sideOf n n lengths lists) n ranks
   unfolding place
   side-agrees = record { rank = λ {i} {w} u v. S .ranks-done .cells u v ∙ sym (side-alike .place u v) }
 
@@ -67,7 +65,7 @@ module _ {b lengths lists ranks : List ℕ} {n from : ℕ} (W : WellFormed b) (e
 
 -- The market of a record's tables, the men proposing
 abbrev pub tableMarket : ℕ → Instance → Market
-tableMarket n r = marketOf n n (take n (r .«man_lengths»)) (r .«man_lists») (take n (r .«woman_lengths»)) (r .«woman_lists»)
+tableMarket n r = marketOf n n (r .«man_lengths») (r .«man_lists») (r .«woman_lengths») (r .«woman_lists»)
 
 module _ {b : List ℕ} {n : ℕ} {r : Instance} (W : WellFormed b) (e : n ≡ people b) (T : Tables b n r) where
   -- it is alike to the market of the book
@@ -80,7 +78,7 @@ module _ {b : List ℕ} {n : ℕ} {r : Instance} (W : WellFormed b) (e : n ≡ p
   table-proper = proper-alike table-alike (market-proper W)
 
   -- what the kernel asks of the tables, the men proposing
-  pub kernel-men : KernelTables n n (take n (r .«man_lengths»)) (r .«man_lists») (take n (r .«woman_lengths»)) (r .«woman_lists») (r .«woman_ranks»)
+  pub kernel-men : KernelTables n n (r .«man_lengths») (r .«man_lists») (r .«woman_lengths») (r .«woman_lists») (r .«woman_ranks»)
   kernel-men =
       record {
         proper = table-proper;
@@ -91,7 +89,7 @@ module _ {b : List ℕ} {n : ℕ} {r : Instance} (W : WellFormed b) (e : n ≡ p
       }
 
   -- and the women proposing
-  pub kernel-women : KernelTables n n (take n (r .«woman_lengths»)) (r .«woman_lists») (take n (r .«man_lengths»)) (r .«man_lists») (r .«man_ranks»)
+  pub kernel-women : KernelTables n n (r .«woman_lengths») (r .«woman_lists») (r .«man_lengths») (r .«man_lists») (r .«man_ranks»)
   kernel-women =
       record {
         proper = exchanged table-proper;

@@ -1,3 +1,5 @@
 -- Matchings in the words of document 01: what the contracts of src/ cite. Assumes nothing.
 pub mod BookMarket
 pub mod Kernel
+pub mod Matching
+pub mod Extreme

@@ -3,8 +3,8 @@ use Prim.Native.Nat.{ℕ, _-_, _≤_, _<_}
 use mathlib.Core.Path.{_≡_, refl}
 use native.Mathlib.Omega.{arith}
 use lib.ListN.{length, length-set}
+use Rattle.laws.specs.Front.{front-more}
 use Rattle.laws.specs.Values.{vec}
-use Rattle.laws.specs.Stores.{store-more}
 use Rattle.deferred.proofs.clear.Statement.{statement}
 use Rattle.deferred.proofs.clear.Tie as tie
 
@@ -37,7 +37,7 @@ loop-less c = omega arith
 
 loop-again : tie.Need-loop-again Inv-loop μ-loop
 loop-again c = let m = c .before .before .loop in
-    (omega arith, simp length-set (omega arith), store-more (vec (c .before .before .before .args .rlens .now)) (m .t) (m .w) _ (omega arith) refl (m .inv .2))
+    (omega arith, simp length-set (omega arith), front-more (vec (c .before .before .before .args .rlens .now)) (m .t) (m .w) _ (omega arith) refl (m .inv .2))
 
 same-length : tie.Need-same-length Inv-loop μ-loop
 same-length c = c .before .loop .inv .1

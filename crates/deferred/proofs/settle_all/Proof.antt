@@ -5,8 +5,8 @@ use mathlib.Core.Path.{_≡_, _∙_, sym}
 use mathlib.Core.Logic.{⊎-elim}
 use native.Mathlib.Omega.{arith}
 use denote.Ref.{now}
-use Rattle.laws.specs.Values.{vec}
 use Rattle.laws.specs.Table.{cell}
+use Rattle.laws.specs.Values.{vec}
 use Rattle.deferred.specs.Lists.{marketOf, Sized}
 use Rattle.deferred.specs.Answers.{losing-is, BeatenIs}
 use Rattle.deferred.specs.AnyStart.{SettledBelow, below-skip, below-ready, below-chain}

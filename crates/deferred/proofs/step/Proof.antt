@@ -7,8 +7,8 @@ use native.Mathlib.Omega.{arith}
 use lib.ListN.{length-set}
 use denote.Ref.{now}
 use borrow.Author.Needs.{needs}
-use Rattle.laws.specs.Values.{vec}
 use Rattle.laws.specs.Table.{cell}
+use Rattle.laws.specs.Values.{vec}
 use Rattle.deferred.specs.Step.{stored-index, stored-entry, stored-after, rank-index, step-off, step-worse, step-free, step-displaced, step-last}
 use Rattle.deferred.proofs.step.Statement.{statement}
 use Rattle.deferred.proofs.step.Tie as tie

@@ -2,8 +2,8 @@
 use Prim.Native.Nat.{_-_, _≤_}
 use native.Mathlib.Omega.{arith}
 use borrow.Author.Tests.{not-true, not-false}
-use Rattle.laws.specs.Values.{vec}
 use Rattle.stable_theory.specs.Stable.Market.{Proper}
+use Rattle.laws.specs.Values.{vec}
 use Rattle.deferred.specs.Lists.{marketOf}
 use Rattle.deferred.specs.AnyStart.{WholeBelow, whole-none, whole-on, whole-yes, whole-no}
 use Rattle.deferred.proofs.whole.Statement.{statement}
