@@ -28,10 +28,10 @@ module _ {b lengths lists ranks : List ℕ} {n from : ℕ} (W : WellFormed b) (e
   square = let f : n ≤ largest = omega (arith, W .few) in mul-le-mul f f
 
   lens-at : {i : ℕ} → i < n → vec lengths i ≡ listLength b (from + i)
-  lens-at {i} u = getD-lengths i 0 u ∙ S .length-at u
+  lens-at u = S .length-at u
 
   lens-full : {i : ℕ} → i < n → vec lengths i ≡ n
-  lens-full {i} u = getD-lengths i 0 u ∙ length-full source h S u
+  lens-full u = length-full source h S u
 
   -- a side's tables are alike to the side
   pub side-alike : AlikeSide (sideOf n n lengths lists) (sideAt b from) n

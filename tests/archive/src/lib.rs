@@ -1,0 +1,156 @@
+//! The functions of include/placement.h as the linked archive has them, over slices. An empty slice is passed as a
+//! null pointer and length 0.
+
+use independent::reply::Reply;
+
+mod c {
+    use super::Reply;
+
+    extern "C" {
+        pub fn placement_check_book(book: *const u8, book_len: usize) -> Reply;
+        pub fn placement_book_size(n: usize) -> Reply;
+        pub fn placement_write_book(
+            n: usize,
+            lists: *const u8,
+            lists_len: usize,
+            out: *mut u8,
+            out_len: usize,
+        ) -> Reply;
+        pub fn placement_student_list(book: *const u8, book_len: usize, student: u8) -> Reply;
+        pub fn placement_mentor_list(book: *const u8, book_len: usize, mentor: u8) -> Reply;
+        pub fn placement_check_matching(
+            book: *const u8,
+            book_len: usize,
+            matching: *const u8,
+            matching_len: usize,
+        ) -> Reply;
+        pub fn placement_student_best(book: *const u8, book_len: usize, out: *mut u8, out_len: usize) -> Reply;
+        pub fn placement_mentor_best(book: *const u8, book_len: usize, out: *mut u8, out_len: usize) -> Reply;
+        pub fn placement_repair(
+            book: *const u8,
+            book_len: usize,
+            matching: *const u8,
+            matching_len: usize,
+            request: *const u8,
+            request_len: usize,
+            out: *mut u8,
+            out_len: usize,
+            gains: *mut i8,
+            gains_len: usize,
+        ) -> Reply;
+        pub fn placement_grade(book: *const u8, book_len: usize, matching: *const u8, matching_len: usize) -> Reply;
+        pub fn placement_rotations(book: *const u8, book_len: usize, out: *mut u8, out_len: usize) -> Reply;
+        pub fn placement_precedes(book: *const u8, book_len: usize, first: usize, second: usize) -> Reply;
+        pub fn placement_set_to_matching(
+            book: *const u8,
+            book_len: usize,
+            set: *const u8,
+            set_len: usize,
+            out: *mut u8,
+            out_len: usize,
+        ) -> Reply;
+        pub fn placement_matching_to_set(
+            book: *const u8,
+            book_len: usize,
+            matching: *const u8,
+            matching_len: usize,
+            out: *mut u8,
+            out_len: usize,
+        ) -> Reply;
+        pub fn placement_sheet(input: *const u8, input_len: usize, out: *mut u8, out_len: usize) -> Reply;
+    }
+}
+
+/// The pointer of a slice that is lent for reading.
+fn at(slice: &[u8]) -> *const u8 {
+    if slice.is_empty() {
+        std::ptr::null()
+    } else {
+        slice.as_ptr()
+    }
+}
+
+/// The pointer of a slice that is lent for a result.
+fn at_mut<T>(slice: &mut [T]) -> *mut T {
+    if slice.is_empty() {
+        std::ptr::null_mut()
+    } else {
+        slice.as_mut_ptr()
+    }
+}
+
+// Safety, of all calls: pointer and length are those of a slice, and result slices are lent as `&mut`.
+
+pub fn check_book(book: &[u8]) -> Reply {
+    unsafe { c::placement_check_book(at(book), book.len()) }
+}
+
+pub fn book_size(n: usize) -> Reply {
+    unsafe { c::placement_book_size(n) }
+}
+
+pub fn write_book(n: usize, lists: &[u8], out: &mut [u8]) -> Reply {
+    unsafe { c::placement_write_book(n, at(lists), lists.len(), at_mut(out), out.len()) }
+}
+
+pub fn student_list(book: &[u8], student: u8) -> Reply {
+    unsafe { c::placement_student_list(at(book), book.len(), student) }
+}
+
+pub fn mentor_list(book: &[u8], mentor: u8) -> Reply {
+    unsafe { c::placement_mentor_list(at(book), book.len(), mentor) }
+}
+
+pub fn check_matching(book: &[u8], matching: &[u8]) -> Reply {
+    unsafe { c::placement_check_matching(at(book), book.len(), at(matching), matching.len()) }
+}
+
+pub fn student_best(book: &[u8], out: &mut [u8]) -> Reply {
+    unsafe { c::placement_student_best(at(book), book.len(), at_mut(out), out.len()) }
+}
+
+pub fn mentor_best(book: &[u8], out: &mut [u8]) -> Reply {
+    unsafe { c::placement_mentor_best(at(book), book.len(), at_mut(out), out.len()) }
+}
+
+pub fn repair(book: &[u8], matching: &[u8], request: &[u8], out: &mut [u8], gains: &mut [i8]) -> Reply {
+    let (out_len, gains_len) = (out.len(), gains.len());
+    unsafe {
+        c::placement_repair(
+            at(book),
+            book.len(),
+            at(matching),
+            matching.len(),
+            at(request),
+            request.len(),
+            at_mut(out),
+            out_len,
+            at_mut(gains),
+            gains_len,
+        )
+    }
+}
+
+pub fn grade(book: &[u8], matching: &[u8]) -> Reply {
+    unsafe { c::placement_grade(at(book), book.len(), at(matching), matching.len()) }
+}
+
+pub fn rotations(book: &[u8], out: &mut [u8]) -> Reply {
+    unsafe { c::placement_rotations(at(book), book.len(), at_mut(out), out.len()) }
+}
+
+pub fn precedes(book: &[u8], first: usize, second: usize) -> Reply {
+    unsafe { c::placement_precedes(at(book), book.len(), first, second) }
+}
+
+pub fn set_to_matching(book: &[u8], set: &[u8], out: &mut [u8]) -> Reply {
+    unsafe { c::placement_set_to_matching(at(book), book.len(), at(set), set.len(), at_mut(out), out.len()) }
+}
+
+pub fn matching_to_set(book: &[u8], matching: &[u8], out: &mut [u8]) -> Reply {
+    unsafe { c::placement_matching_to_set(at(book), book.len(), at(matching), matching.len(), at_mut(out), out.len()) }
+}
+
+pub fn sheet(input: &[u8], out: &mut [u8]) -> Reply {
+    unsafe { c::placement_sheet(at(input), input.len(), at_mut(out), out.len()) }
+}

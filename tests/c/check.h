@@ -1,0 +1,56 @@
+/* Checks for the C tests: expected replies, inputs that end at a page nobody may touch, and result buffers between
+ * guard bytes. A failed check is printed and counted; the program goes on. */
+#ifndef CHECK_H
+#define CHECK_H
+
+#include "placement.h"
+
+/* The largest buffer that a test lends or reads: the list of 2,016 rotations has 10,080 bytes. */
+#define LARGEST_BUFFER 12288
+#define GUARD 64
+
+/* How many checks were made, and how many failed. */
+extern unsigned long checks, failures;
+
+/* Expected replies. */
+struct placement_reply refused(uint32_t number, uint32_t place);
+struct placement_reply value(uint32_t value);
+struct placement_reply answer(char letter, uint32_t distance);
+
+/* Compares a reply with the expected one. */
+void expect_at(const char *file, int line, struct placement_reply got, struct placement_reply due);
+#define EXPECT(got, due) expect_at(__FILE__, __LINE__, (got), (due))
+
+/* Checks that something holds. */
+void holds_at(const char *file, int line, int holds, const char *text);
+#define HOLDS(test) holds_at(__FILE__, __LINE__, (test) ? 1 : 0, #test)
+
+/* A copy of an input in its own memory, directly before a page that may not be read. There are FENCES of them;
+ * a copy stays until the same fence is used again. Length 0 gives a null pointer. */
+#define FENCES 3
+const uint8_t *fenced(int fence, const uint8_t *bytes, size_t length);
+
+/* A result buffer between guard bytes. All bytes, guard bytes too, hold a pattern of bytes from 0x80 to 0xbf. */
+struct lent {
+    uint8_t bytes[GUARD + LARGEST_BUFFER + GUARD];
+    size_t length;
+};
+
+/* Fills a buffer with the pattern and lends that many bytes of it. */
+uint8_t *lend(struct lent *buffer, size_t length);
+
+/* Checks that the buffer holds these bytes first, and that every other byte is as it was. */
+void wrote_at(const char *file, int line, const struct lent *buffer, const void *due, size_t length);
+#define WROTE(buffer, due, length) wrote_at(__FILE__, __LINE__, (buffer), (due), (length))
+#define WROTE_NOTHING(buffer) wrote_at(__FILE__, __LINE__, (buffer), "", 0)
+
+/* The tests, one file each. */
+void test_book(void);
+void test_writer(void);
+void test_matching(void);
+void test_rotations(void);
+void test_sets(void);
+void test_repair(void);
+void test_sheet(void);
+
+#endif

@@ -1,0 +1,17 @@
+/* Goes through every function of include/placement.h. Exits with 1 if a check failed. */
+#include "check.h"
+
+#include <stdio.h>
+
+int main(void)
+{
+    test_book();
+    test_writer();
+    test_matching();
+    test_rotations();
+    test_sets();
+    test_repair();
+    test_sheet();
+    printf("C: %lu checks, %lu failed\n", checks, failures);
+    return failures != 0;
+}

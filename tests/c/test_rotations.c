@@ -1,0 +1,132 @@
+/* The list of rotations and their order. */
+#include "books.h"
+#include "check.h"
+
+static struct lent out;
+
+/* Table 1: rotation 1 is document 01's; the others follow from Table 2 of document 000. */
+static const uint8_t table_1_rotations[32] = {2, 0, 5, 6, 2, 3, 1, 4, 6, 5, 5, 0, 2, 0, 2, 5,
+                                              4, 2, 0, 4, 4, 1, 2, 2, 6, 6, 0, 2, 1, 5, 3, 3};
+
+static struct placement_reply list(struct book book, size_t room)
+{
+    return placement_rotations(fenced(0, book.bytes, book.length), book.length, lend(&out, room), room);
+}
+
+static void lists(void)
+{
+    static const uint8_t none[2] = {1, 0}, two[5] = {2, 0, 0, 1, 1};
+    struct book table_1 = book_of(7, table_1_lists);
+    EXPECT(list(table_1, 32), value(6));
+    WROTE(&out, table_1_rotations, 32);
+    EXPECT(list(table_1, 40), value(6));
+    WROTE(&out, table_1_rotations, 32);
+    EXPECT(list(table_1, 31), refused(14, 0));
+    EXPECT(placement_rotations(table_1.bytes, 156, NULL, 0), refused(14, 0));
+    EXPECT(list(with(table_1, 0, 2), 0), refused(2, 0));
+    EXPECT(placement_rotations(NULL, 0, NULL, 0), refused(1, 0));
+    WROTE_NOTHING(&out);
+    EXPECT(placement_rotations(none, 2, NULL, 0), value(0));
+    EXPECT(list(book_of(1, "00"), 4), value(0));
+    WROTE_NOTHING(&out);
+    EXPECT(list(book_of(2, "01101001"), 5), value(1));
+    WROTE(&out, two, 5);
+    EXPECT(list(book_of(2, "01010101"), 5), value(0));
+    WROTE_NOTHING(&out);
+}
+
+/* Two rotations are exposed at first, (1,1) (4,4) and (2,2) (3,3). Student 0 is in neither, and his next mentor is 2:
+ * the number goes by the lowest student of a rotation, not by the first rotation that a walk from student 0 meets. */
+static void lowest_first(void)
+{
+    static const uint8_t due[10] = {2, 1, 1, 4, 4, 2, 2, 2, 3, 3};
+    struct book book = book_of(5, "02134" "14023" "23014" "32014" "41023" "01234" "41023" "30214" "23014" "14023");
+    EXPECT(list(book, 10), value(2));
+    WROTE(&out, due, 10);
+    EXPECT(placement_precedes(book.bytes, book.length, 0, 1), value(0));
+    EXPECT(placement_precedes(book.bytes, book.length, 1, 0), value(0));
+}
+
+/* Cyclic lists of 64: rotation k takes every student from place k to place k + 1. */
+static void cyclic(void)
+{
+    static uint8_t due[63 * 129];
+    size_t at = 0;
+    for (size_t k = 0; k < 63; k++) {
+        due[at++] = 64;
+        for (size_t i = 0; i < 64; i++) {
+            due[at++] = (uint8_t)i;
+            due[at++] = (uint8_t)((i + k) % 64);
+        }
+    }
+    EXPECT(list(cyclic_64(), sizeof due), value(63));
+    WROTE(&out, due, sizeof due);
+    EXPECT(list(cyclic_64(), sizeof due - 1), refused(14, 0));
+    WROTE_NOTHING(&out);
+}
+
+/* Xor lists of 64: 2,016 rotations of two pairs. From place k to k + 1, student i changes with i xor k xor (k + 1).
+ * Checked are the number, the form of each, and the first. */
+static void xor_lists(void)
+{
+    struct book book = xor_64();
+    EXPECT(list(book, 10080), value(2016));
+    const uint8_t *bytes = out.bytes + GUARD;
+    int pairs = 1;
+    for (size_t at = 0; at < 10080; at += 5) {
+        /* Two pairs, the lower student first, and each student's mentor before is the other's mentor after. */
+        pairs = pairs && bytes[at] == 2 && bytes[at + 1] < bytes[at + 3] &&
+                (bytes[at + 1] ^ bytes[at + 2]) == (bytes[at + 3] ^ bytes[at + 4]);
+    }
+    HOLDS(pairs);
+    HOLDS(bytes[1] == 0 && bytes[2] == 0 && bytes[3] == 1 && bytes[4] == 1);
+    EXPECT(list(book, 10079), refused(14, 0));
+    WROTE_NOTHING(&out);
+}
+
+/* Table 1: 0 before 1, 1 before 2 and 4, 2 before 3, 4 before 5. This gives its eleven closed sets. */
+static void order(void)
+{
+    static const char *const before[6] = {"", "0", "01", "012", "01", "014"};
+    struct book table_1 = book_of(7, table_1_lists);
+    const uint8_t *book = fenced(0, table_1.bytes, 156);
+    for (size_t second = 0; second < 6; second++) {
+        for (size_t first = 0; first < 6; first++) {
+            uint32_t yes = 0;
+            for (const char *digit = before[second]; *digit != 0; digit++) {
+                yes |= (size_t)(*digit - '0') == first;
+            }
+            EXPECT(placement_precedes(book, 156, first, second), value(yes));
+        }
+    }
+    EXPECT(placement_precedes(book, 156, 6, 0), refused(11, 0));
+    EXPECT(placement_precedes(book, 156, 0, 6), refused(11, 0));
+    EXPECT(placement_precedes(book, 156, SIZE_MAX, 0), refused(11, 0));
+    EXPECT(placement_precedes(book, 156, 0, (size_t)1 << 32), refused(11, 0));
+    EXPECT(placement_precedes(book, 155, 6, 6), refused(1, 155));
+    EXPECT(placement_precedes(NULL, 0, 0, 0), refused(1, 0));
+}
+
+static void order_of_large(void)
+{
+    static const uint8_t none[2] = {1, 0};
+    struct book cyclic = cyclic_64(), xor = xor_64();
+    EXPECT(placement_precedes(none, 2, 0, 0), refused(11, 0));
+    EXPECT(placement_precedes(cyclic.bytes, 8706, 0, 62), value(1));
+    EXPECT(placement_precedes(cyclic.bytes, 8706, 62, 0), value(0));
+    EXPECT(placement_precedes(cyclic.bytes, 8706, 62, 62), value(0));
+    EXPECT(placement_precedes(cyclic.bytes, 8706, 0, 63), refused(11, 0));
+    EXPECT(placement_precedes(xor.bytes, 8706, 0, 2015), value(1));
+    EXPECT(placement_precedes(xor.bytes, 8706, 2015, 0), value(0));
+    EXPECT(placement_precedes(xor.bytes, 8706, 0, 2016), refused(11, 0));
+}
+
+void test_rotations(void)
+{
+    lists();
+    lowest_first();
+    cyclic();
+    xor_lists();
+    order();
+    order_of_large();
+}

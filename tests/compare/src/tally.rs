@@ -1,0 +1,73 @@
+//! Counts of what was compared, and the report of differences.
+
+use independent::reply::Reply;
+use std::fmt::Write;
+
+/// How many differences are printed in full.
+const PRINTED: usize = 5;
+
+#[derive(Default)]
+pub struct Tally {
+    pub books: usize,
+    pub largest_books: usize,
+    pub damaged_books: usize,
+    pub matchings: usize,
+    pub calls: usize,
+    /// Answers with U, D and F.
+    pub letters: [usize; 3],
+    /// Refusals by number; at 0 the calls that were not refused.
+    pub refusals: [usize; 17],
+    pub differences: usize,
+}
+
+impl Tally {
+    /// Counts a call by the independent library's reply.
+    pub fn count(&mut self, reply: Reply) {
+        self.calls += 1;
+        self.refusals[reply.number as usize] += 1;
+        if let Some(letter) = ['U', 'D', 'F'].iter().position(|&c| c as u32 == reply.letter) {
+            self.letters[letter] += 1;
+        }
+    }
+
+    /// Counts a difference, and prints it if it is one of the first.
+    pub fn differ(&mut self, call: &str, inputs: &[&[u8]], archive: String, independent: String) {
+        self.differences += 1;
+        if self.differences > PRINTED {
+            return;
+        }
+        println!("difference {} in {call}, book {}", self.differences, self.books);
+        for input in inputs {
+            println!("  input        {}", hex(input));
+        }
+        println!("  archive      {archive}");
+        println!("  independent  {independent}");
+    }
+
+    /// What never occurred and should have.
+    pub fn missing(&self) -> Vec<String> {
+        let refusals = (0..17).filter(|&k| self.refusals[k] == 0).map(|k| format!("refusal {k}"));
+        let letters = (0..3).filter(|&k| self.letters[k] == 0).map(|k| format!("letter {}", ["U", "D", "F"][k]));
+        let books = (self.largest_books == 0).then(|| "book of 64".to_string());
+        refusals.chain(letters).chain(books).collect()
+    }
+
+    pub fn print(&self) {
+        let [up, down, fixed] = self.letters;
+        println!("books {} ({} of n = 64), stable matchings {}", self.books, self.largest_books, self.matchings);
+        println!("damaged books {}, calls {}: U {up}, D {down}, F {fixed}", self.damaged_books, self.calls);
+        let mut line = String::from("refused");
+        for (number, times) in self.refusals.iter().enumerate().skip(1) {
+            write!(line, " {number}: {times}").expect("a string takes everything");
+        }
+        println!("{line}");
+        println!("differences {}", self.differences);
+    }
+}
+
+/// Bytes as hexadecimal digits, long ones shortened.
+pub fn hex(bytes: &[u8]) -> String {
+    let shown: String = bytes.iter().take(160).map(|b| format!("{b:02x}")).collect();
+    let more = if bytes.len() > 160 { "..." } else { "" };
+    format!("{} bytes {shown}{more}", bytes.len())
+}

@@ -1,0 +1,144 @@
+//! The functions of include/placement.h, over slices. Each answers as the header says: rules in its order, nothing
+//! written on a refusal, nothing past the result.
+
+use crate::book;
+use crate::gale_shapley;
+use crate::instance;
+use crate::matching;
+use crate::poset::Poset;
+use crate::repair::{self, Answer, Repairs};
+use crate::reply::{reply, rule, Checked, Reply};
+use crate::sheet;
+
+pub fn check_book(book: &[u8]) -> Reply {
+    reply(|| book::check(book))
+}
+
+pub fn book_size(n: usize) -> Reply {
+    reply(|| rule(n > book::LARGEST, 3, 1).map(|()| book::size(n)))
+}
+
+pub fn write_book(n: usize, lists: &[u8], out: &mut [u8]) -> Reply {
+    reply(|| book::write(n, lists, out))
+}
+
+pub fn student_list(book: &[u8], student: u8) -> Reply {
+    person(book::list_offset(book, false, student))
+}
+
+pub fn mentor_list(book: &[u8], mentor: u8) -> Reply {
+    person(book::list_offset(book, true, mentor))
+}
+
+/// The reply of a list: its offset as the place, its length as the value.
+fn person(list: Checked<(usize, usize)>) -> Reply {
+    match list {
+        Ok((offset, length)) => Reply { place: offset as u32, ..Reply::value(length) },
+        Err(refusal) => Reply::refused(refusal),
+    }
+}
+
+pub fn check_matching(book: &[u8], matching: &[u8]) -> Reply {
+    reply(|| matching::stable(&instance::read(book)?, matching).map(|_| 0))
+}
+
+pub fn student_best(book: &[u8], out: &mut [u8]) -> Reply {
+    reply(|| {
+        let instance = instance::read(book)?;
+        lend(out, instance.n, |out| out.copy_from_slice(&gale_shapley::man_optimal(&instance).woman[..instance.n]))
+    })
+}
+
+pub fn mentor_best(book: &[u8], out: &mut [u8]) -> Reply {
+    reply(|| {
+        let instance = instance::read(book)?;
+        lend(out, instance.n, |out| out.copy_from_slice(&gale_shapley::woman_optimal(&instance).woman[..instance.n]))
+    })
+}
+
+/// Rule 14, then the result of `size` bytes; answers with the size.
+fn lend(out: &mut [u8], size: usize, write: impl FnOnce(&mut [u8])) -> Checked<usize> {
+    rule(out.len() < size, 14, 0)?;
+    write(&mut out[..size]);
+    Ok(size)
+}
+
+pub fn repair(book: &[u8], matching: &[u8], request: &[u8], out: &mut [u8], gains: &mut [i8]) -> Reply {
+    match repaired(book, matching, request, out, gains) {
+        Ok(answer) => Reply { letter: answer.letter() as u32, ..Reply::value(answer.distance() as usize) },
+        Err(refusal) => Reply::refused(refusal),
+    }
+}
+
+fn repaired(book: &[u8], given: &[u8], request: &[u8], out: &mut [u8], gains: &mut [i8]) -> Checked<Answer> {
+    let instance = instance::read(book)?;
+    let n = instance.n;
+    let matching = matching::stable(&instance, given)?;
+    rule(request.len() != 2, 13, 0)?;
+    let (man, woman) = (request[0], request[1]);
+    rule(man as usize >= n || woman as usize >= n, 11, 0)?;
+    rule(given[man as usize] != woman, 12, 0)?;
+    rule(out.len() < n || gains.len() < n, 14, 0)?;
+    let poset = Poset::of(&instance);
+    let repairs = Repairs::of(&instance, &poset, &matching, 1 << man);
+    let answer = repairs.answer(man);
+    if answer != Answer::Fixed {
+        out[..n].copy_from_slice(&repairs.matching(&matching, man, answer)[..n]);
+        for m in 0..n as u8 {
+            let rank = |woman| instance.men.rank(m, woman) as i8;
+            gains[m as usize] = rank(given[m as usize]) - rank(out[m as usize]);
+        }
+    }
+    Ok(answer)
+}
+
+pub fn grade(book: &[u8], matching: &[u8]) -> Reply {
+    reply(|| {
+        let instance = instance::read(book)?;
+        let matching = matching::stable(&instance, matching)?;
+        Ok(repair::all(&instance, &Poset::of(&instance), &matching).1)
+    })
+}
+
+pub fn rotations(book: &[u8], out: &mut [u8]) -> Reply {
+    reply(|| {
+        let poset = Poset::numbered(&instance::read(book)?);
+        lend(out, poset.list_size(), |out| poset.write_list(out))?;
+        Ok(poset.count())
+    })
+}
+
+pub fn precedes(book: &[u8], first: usize, second: usize) -> Reply {
+    reply(|| {
+        let poset = Poset::numbered(&instance::read(book)?);
+        rule(first >= poset.count() || second >= poset.count(), 11, 0)?;
+        Ok(poset.precedes(first, second) as usize)
+    })
+}
+
+pub fn set_to_matching(book: &[u8], set: &[u8], out: &mut [u8]) -> Reply {
+    reply(|| {
+        let instance = instance::read(book)?;
+        let poset = Poset::numbered(&instance);
+        rule(set.len() != poset.count() || set.iter().any(|&mark| mark > 1), 15, 0)?;
+        rule(!poset.is_closed(set), 16, 0)?;
+        lend(out, instance.n, |out| out.copy_from_slice(&poset.matching(set)[..instance.n]))
+    })
+}
+
+pub fn matching_to_set(book: &[u8], matching: &[u8], out: &mut [u8]) -> Reply {
+    reply(|| {
+        let instance = instance::read(book)?;
+        let matching = matching::stable(&instance, matching)?;
+        let poset = Poset::numbered(&instance);
+        lend(out, poset.count(), |out| {
+            let marks = (0..out.len()).map(|r| poset.is_eliminated(&instance, &matching, r) as u8);
+            out.iter_mut().zip(marks).for_each(|(byte, mark)| *byte = mark);
+        })
+    })
+}
+
+pub fn sheet(input: &[u8], out: &mut [u8]) -> Reply {
+    let text = sheet::text(input);
+    reply(|| lend(out, text.len(), |out| out.copy_from_slice(&text)))
+}

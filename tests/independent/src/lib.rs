@@ -1,0 +1,31 @@
+//! A second implementation of document 01 (stable placements and their repairs), made to be compared with the
+//! verified library. It goes by another route: the rotation poset of Gusfield and Irving (1989), and the repairs of
+//! document 000, section 3. Students are called men and mentors women, as in those sources.
+//!
+//! - `book`: the encoded lists, rules 1 to 7, the writer
+//! - `instance`: the lists and the rank tables of a well-formed book
+//! - `matching`: rules 8 to 10
+//! - `gale_shapley`: the man-optimal and the woman-optimal matching
+//! - `search`: all rotations, in the order in which a search meets them, with the edges of the poset
+//! - `numbering`: the rotations in the order of document 01's numbers
+//! - `poset`: precedence, closed subsets
+//! - `repair`: repairs of one pair or of all pairs of a matching, grade
+//! - `sheet`: the printed sheet
+//! - `calls`: the functions of include/placement.h over slices
+//! - `reply`, `groups`: the form of the answers, and a form of storage
+//! - `random`, `samples`: books to try: random ones, and ones with many stable matchings
+
+pub mod book;
+pub mod calls;
+pub mod gale_shapley;
+pub mod groups;
+pub mod instance;
+pub mod matching;
+pub mod numbering;
+pub mod poset;
+pub mod random;
+pub mod repair;
+pub mod reply;
+pub mod samples;
+pub mod search;
+pub mod sheet;

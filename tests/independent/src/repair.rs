@@ -1,0 +1,172 @@
+//! Repairs by document 000, section 3. S is the closed subset of the given matching and (m, w) one of its pairs.
+//! - Repair up: S without the rotation that produces (m, w) and those that it precedes.
+//! - Repair down: S with the rotation that eliminates (m, w) and those that precede it.
+//!
+//! The repairs of all pairs are worked out together: a set of men is a 64-bit number, and each rotation gets the set
+//! of those men whose repair takes it out of S, or into S. These sets go along the edges of the poset, which makes the
+//! transitive closure; one pass over the rotations does for all pairs.
+
+use crate::instance::Instance;
+use crate::matching::{Matching, Partners};
+use crate::poset::{self, Poset};
+
+/// No rotation.
+const NONE: u16 = u16::MAX;
+
+/// A repair, by its distance; or the pair is fixed.
+#[derive(Clone, Copy, Debug, PartialEq, Eq)]
+pub enum Answer {
+    Up(u8),
+    Down(u8),
+    Fixed,
+}
+
+impl Answer {
+    pub fn letter(self) -> u8 {
+        match self {
+            Answer::Up(_) => b'U',
+            Answer::Down(_) => b'D',
+            Answer::Fixed => b'F',
+        }
+    }
+
+    /// The distance, 0 where the pair is fixed.
+    pub fn distance(self) -> u8 {
+        match self {
+            Answer::Up(distance) | Answer::Down(distance) => distance,
+            Answer::Fixed => 0,
+        }
+    }
+}
+
+/// The repairs of the pairs of some men, those asked for.
+pub struct Repairs<'a> {
+    poset: &'a Poset,
+    /// The closed subset of the given matching.
+    inside: Vec<bool>,
+    /// The rotation that produces each man's pair, and the one that eliminates it.
+    produced_by: [u16; 64],
+    eliminated_by: [u16; 64],
+    /// For each rotation inside the men whose repair up takes it out, and for each outside those whose repair down
+    /// takes it in.
+    taken: Vec<u64>,
+    /// For each man asked for, the men whom his repair up moves, and his repair down.
+    up_moves: [u64; 64],
+    down_moves: [u64; 64],
+}
+
+impl<'a> Repairs<'a> {
+    /// The repairs for the pairs of the men in the set `asked`.
+    pub fn of(instance: &Instance, poset: &'a Poset, matching: &Matching, asked: u64) -> Repairs<'a> {
+        let count = poset.count();
+        let mut repairs = Repairs {
+            poset,
+            inside: (0..count).map(|r| poset.is_eliminated(instance, matching, r)).collect(),
+            produced_by: [NONE; 64],
+            eliminated_by: [NONE; 64],
+            taken: vec![0; count],
+            up_moves: [0; 64],
+            down_moves: [0; 64],
+        };
+        repairs.go_up(asked);
+        repairs.go_down(asked);
+        repairs
+    }
+
+    /// Rotations inside, the first first: each man is in the sets of the rotation that produces his pair (the last of the
+    /// man's) and of all that come after it.
+    fn go_up(&mut self, asked: u64) {
+        for r in (0..self.poset.count()).filter(|&r| self.inside[r]) {
+            self.poset.rotation(r).iter().for_each(|pair| self.produced_by[pair.man as usize & 63] = r as u16);
+        }
+        let mut moved_by = [0u64; 64];
+        for r in (0..self.poset.count()).filter(|&r| self.inside[r]) {
+            let mut takers = self.poset.before(r).iter().fold(0, |set, &b| set | self.taken[b as usize]);
+            let pairs = self.poset.rotation(r);
+            for pair in pairs.iter().filter(|pair| self.produced_by[pair.man as usize & 63] == r as u16) {
+                takers |= 1 << pair.man & asked;
+            }
+            self.taken[r] = takers;
+            pairs.iter().for_each(|pair| moved_by[pair.man as usize & 63] |= takers);
+        }
+        self.up_moves = transposed(moved_by);
+    }
+
+    /// Rotations outside, the last first: each man is in the sets of the rotation that eliminates his pair (the first
+    /// of the man's) and of all that come before it.
+    fn go_down(&mut self, asked: u64) {
+        for r in (0..self.poset.count()).rev().filter(|&r| !self.inside[r]) {
+            self.poset.rotation(r).iter().for_each(|pair| self.eliminated_by[pair.man as usize & 63] = r as u16);
+        }
+        let mut moved_by = [0u64; 64];
+        for r in (0..self.poset.count()).rev().filter(|&r| !self.inside[r]) {
+            let pairs = self.poset.rotation(r);
+            for pair in pairs.iter().filter(|pair| self.eliminated_by[pair.man as usize & 63] == r as u16) {
+                self.taken[r] |= 1 << pair.man & asked;
+            }
+            let takers = self.taken[r];
+            for &b in self.poset.before(r).iter().filter(|&&b| !self.inside[b as usize]) {
+                self.taken[b as usize] |= takers;
+            }
+            pairs.iter().for_each(|pair| moved_by[pair.man as usize & 63] |= takers);
+        }
+        self.down_moves = transposed(moved_by);
+    }
+
+    /// The answer for a man's pair: the nearer repair, at equal distance up.
+    pub fn answer(&self, man: u8) -> Answer {
+        let man = man as usize & 63;
+        let up = self.up_moves[man].count_ones() as u8;
+        let down = self.down_moves[man].count_ones() as u8;
+        match (self.produced_by[man] != NONE, self.eliminated_by[man] != NONE) {
+            (true, true) if up <= down => Answer::Up(up),
+            (true, false) => Answer::Up(up),
+            (_, true) => Answer::Down(down),
+            (false, false) => Answer::Fixed,
+        }
+    }
+
+    /// The repaired matching of an answer.
+    pub fn matching(&self, given: &Matching, man: u8, answer: Answer) -> Partners {
+        let mut woman = given.woman;
+        let taken = |&r: &usize| self.taken[r] >> man & 1 == 1;
+        match answer {
+            Answer::Up(_) => {
+                let out = (0..self.poset.count()).rev().filter(|&r| self.inside[r]).filter(taken);
+                out.for_each(|r| poset::restore(self.poset.rotation(r), &mut woman));
+            }
+            Answer::Down(_) => {
+                let inward = (0..self.poset.count()).filter(|&r| !self.inside[r]).filter(taken);
+                inward.for_each(|r| poset::eliminate(self.poset.rotation(r), &mut woman));
+            }
+            Answer::Fixed => {}
+        }
+        woman
+    }
+}
+
+/// The answers for all men, and the grade: the largest distance of a repair, less 1, or 0 if all pairs are fixed.
+pub fn all(instance: &Instance, poset: &Poset, matching: &Matching) -> (Vec<Answer>, usize) {
+    let repairs = Repairs::of(instance, poset, matching, u64::MAX);
+    let answers: Vec<Answer> = (0..instance.n as u8).map(|m| repairs.answer(m)).collect();
+    let grade = answers.iter().map(|a| a.distance().saturating_sub(1)).max().unwrap_or(0);
+    (answers, grade as usize)
+}
+
+/// The table of bits with rows and columns exchanged: halves of 32, then of 16, and so on, change places.
+fn transposed(mut rows: [u64; 64]) -> [u64; 64] {
+    let mut width = 32;
+    let mut mask = u64::MAX >> 32;
+    while width > 0 {
+        let mut k = 0;
+        while k < 64 {
+            let swapped = (rows[k] >> width ^ rows[k | width]) & mask;
+            rows[k] ^= swapped << width;
+            rows[k | width] ^= swapped;
+            k = ((k | width) + 1) & !width;
+        }
+        width /= 2;
+        mask ^= mask << width;
+    }
+    rows
+}

@@ -1,0 +1,57 @@
+//! Answers: a refusal, and the reply of include/placement.h.
+
+/// A broken rule of document 01's table: its number, its place, and for rule 10 the second place.
+#[derive(Clone, Copy, Debug, PartialEq, Eq)]
+pub struct Refusal {
+    pub number: u32,
+    pub place: u32,
+    pub second: u32,
+}
+
+/// A result, or the first rule that the input breaks.
+pub type Checked<T> = Result<T, Refusal>;
+
+/// The refusal by `number` at `place`.
+pub fn refused(number: u32, place: usize) -> Refusal {
+    Refusal { number, place: place as u32, second: 0 }
+}
+
+/// Refuses by `number` at `place` when `broken`.
+pub fn rule(broken: bool, number: u32, place: usize) -> Checked<()> {
+    if broken {
+        Err(refused(number, place))
+    } else {
+        Ok(())
+    }
+}
+
+/// `struct placement_reply` of include/placement.h.
+#[repr(C)]
+#[derive(Clone, Copy, Debug, Default, PartialEq, Eq)]
+pub struct Reply {
+    pub number: u32,
+    pub place: u32,
+    pub second: u32,
+    pub letter: u32,
+    pub value: u32,
+}
+
+impl Reply {
+    /// The reply that carries a number and nothing else.
+    pub fn value(value: usize) -> Reply {
+        Reply { value: value as u32, ..Reply::default() }
+    }
+
+    /// The reply of a refusal.
+    pub fn refused(r: Refusal) -> Reply {
+        Reply { number: r.number, place: r.place, second: r.second, ..Reply::default() }
+    }
+}
+
+/// The reply of a call that answers with a number.
+pub fn reply(call: impl FnOnce() -> Checked<usize>) -> Reply {
+    match call() {
+        Ok(value) => Reply::value(value),
+        Err(refusal) => Reply::refused(refusal),
+    }
+}

@@ -1,0 +1,75 @@
+//! Repairs, fixed pairs and the grade in the words of document 01, over the list of all stable matchings.
+
+use super::{distance, Market, Matching};
+
+/// The answer for a pair: U or D with the repaired matching, or nothing where the pair is fixed.
+pub type Answer = Option<(u8, Matching)>;
+
+impl Market {
+    /// Repair up: of the stable matchings without the pair in which no man is worse off, that in which each man has
+    /// the lowest-ranked woman that any of these gives.
+    pub fn repair_up(&self, stable: &[Matching], given: &Matching, man: usize) -> Option<Matching> {
+        let some = self.without(stable, given, man, |new, old| new <= old);
+        self.worst_for_men(&some).cloned().or_else(|| none(&some))
+    }
+
+    /// Repair down: of those in which no man is better off, that in which each has the highest-ranked such woman.
+    pub fn repair_down(&self, stable: &[Matching], given: &Matching, man: usize) -> Option<Matching> {
+        let some = self.without(stable, given, man, |new, old| new >= old);
+        self.best_for_men(&some).cloned().or_else(|| none(&some))
+    }
+
+    /// The stable matchings without the man's pair in which each man's place, new and old, fits.
+    fn without(
+        &self,
+        stable: &[Matching],
+        given: &Matching,
+        man: usize,
+        fits: fn(usize, usize) -> bool,
+    ) -> Vec<Matching> {
+        let all_fit = |m: &Matching| (0..self.n).all(|i| fits(self.place(i, m[i]), self.place(i, given[i])));
+        stable.iter().filter(|m| m[man] != given[man] && all_fit(m)).cloned().collect()
+    }
+
+    /// The nearer of the two, at equal distance up. That none exists when the pair is fixed, and that no stable
+    /// matching without the pair is nearer (demand 3), is tested on the way.
+    pub fn answer(&self, stable: &[Matching], given: &Matching, man: usize) -> Answer {
+        let up = self.repair_up(stable, given, man).map(|m| (b'U', m));
+        let down = self.repair_down(stable, given, man).map(|m| (b'D', m));
+        let answer = [up, down].into_iter().flatten().min_by_key(|(_, m)| distance(m, given));
+        let nearest = stable.iter().filter(|m| m[man] != given[man]).map(|m| distance(m, given)).min();
+        assert_eq!(answer.as_ref().map(|(_, m)| distance(m, given)), nearest);
+        answer
+    }
+
+    /// The grade, as demand 3 has it: the least number such that, for each pair that is not fixed, some stable
+    /// matching without it moves at most that many men besides the asking one.
+    pub fn grade(&self, stable: &[Matching], given: &Matching) -> usize {
+        let enough = |b: usize| {
+            (0..self.n).all(|man| {
+                let mut without = stable.iter().filter(|m| m[man] != given[man]).peekable();
+                without.peek().is_none() || without.any(|m| distance(m, given) - 1 <= b)
+            })
+        };
+        (0..).find(|&b| enough(b)).unwrap()
+    }
+
+    /// The sheet of a stable matching.
+    pub fn sheet(&self, stable: &[Matching], rotations: usize, given: &Matching) -> String {
+        let mut sheet = format!("{} {} {}\n", self.n, rotations, self.grade(stable, given));
+        for man in 0..self.n {
+            let (letter, moved) = match self.answer(stable, given, man) {
+                Some((letter, repaired)) => (letter as char, distance(&repaired, given)),
+                None => ('F', 0),
+            };
+            sheet += &format!("{} {} {} {}\n", man, given[man], letter, moved);
+        }
+        sheet
+    }
+}
+
+/// Nothing, where there is nothing to choose from. A choice that has no extreme would break the lattice theorem.
+fn none(some: &[Matching]) -> Option<Matching> {
+    assert!(some.is_empty(), "stable matchings on one side of the given one have an extreme");
+    None
+}
