@@ -1,0 +1,30 @@
+-- `listing::lines::put_sheet` is safe and ends, with the reply that it promises. Invariant:
+-- i is at most n, and the buffer keeps its length. The measure is the number of men that are left. Assumes nothing.
+use Prim.Native.Nat.{_≤_, _-_}
+use mathlib.Core.Path.{_≡_}
+use lib.ListN.{length}
+use borrow.Author.Needs.{needs}
+use Rattle.listing.proofs.lines.put_sheet.Statement.{statement}
+use Rattle.listing.proofs.lines.put_sheet.Tie as tie
+
+abbrev Inv-loop : tie.InvT-loop
+Inv-loop r s n m rotations to₀ at₀ i₀ to at i = (i ≤ n) × (length to ≡ length to₀)
+
+abbrev μ-loop : tie.MeasureT-loop
+μ-loop r s n m rotations to₀ at₀ i₀ to at i = n - i
+
+pub put-sheet-spec : {M : Type 1} → statement M
+put-sheet-spec =
+    tie.close
+    (tie.spec
+    Inv-loop
+    μ-loop
+    (λ c κs. search needs)
+    (λ c. search needs)
+    (λ c κs. search needs)
+    (λ c κs. search needs)
+    (λ c. search needs)
+    (λ c. search needs)
+    (λ c. search needs)
+    (λ c. search needs)
+    (λ c. search needs))

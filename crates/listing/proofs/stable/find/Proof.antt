@@ -1,0 +1,30 @@
+-- `listing::stable::find` is safe and ends, with the reply that it promises. Invariant:
+-- k is at most 720. The measure is the number of places that are left. Assumes nothing.
+use Prim.Native.Nat.{_≤_, _-_}
+use borrow.Author.Needs.{needs}
+use Rattle.listing.proofs.stable.find.Statement.{statement}
+use Rattle.listing.proofs.stable.find.Tie as tie
+
+abbrev Inv-loop : tie.InvT-loop
+Inv-loop s x k₀ k = k ≤ 720
+
+abbrev μ-loop : tie.MeasureT-loop
+μ-loop s x k₀ k = 720 - k
+
+pub find-spec : {M : Type 1} → statement M
+find-spec =
+    tie.close
+    (tie.spec
+    Inv-loop
+    μ-loop
+    (λ c. search needs)
+    (λ c. search needs)
+    (λ c. search needs)
+    (λ c. search needs)
+    (λ c. search needs)
+    (λ c. search needs)
+    (λ c. search needs)
+    (λ c. search needs)
+    (λ c. search needs)
+    (λ c. search needs)
+    (λ c. search needs))
