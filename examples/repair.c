@@ -27,14 +27,14 @@ static size_t book_length(const uint8_t *input, size_t length)
 static int print_answer(struct placement_reply reply, const uint8_t *old, const uint8_t *new, const int8_t *gains, size_t n)
 {
     if (reply.number != 0) {
-        printf("refused %u, place %u %u\n", reply.number, reply.place, reply.second);
+        printf("refused %zu, place %zu %zu\n", reply.number, reply.place, reply.second);
         return 1;
     }
     if (reply.letter == 'F') {
         printf("fixed: every stable matching holds the pair\n");
         return 0;
     }
-    printf("repair %s moves %u students\n", reply.letter == 'U' ? "up" : "down", reply.value);
+    printf("repair %s moves %zu students\n", reply.letter == 'U' ? "up" : "down", reply.value);
     for (size_t i = 0; i < n; i++) {
         if (gains[i] != 0) {
             printf("student %zu: mentor %u to %u, %+d\n", i, old[i], new[i], gains[i]);

@@ -39,11 +39,11 @@ extern "C" {
 #endif
 
 struct placement_reply {
-    uint32_t number; /* 0, or the rule that is broken */
-    uint32_t place;  /* its place */
-    uint32_t second; /* the mentor of rule 10 */
-    uint32_t letter; /* 'U', 'D' or 'F' of a repair, else 0 */
-    uint32_t value;  /* the result, as each function says */
+    size_t number; /* 0, or the rule that is broken */
+    size_t place;  /* its place */
+    size_t second; /* the mentor of rule 10 */
+    size_t letter; /* 'U', 'D' or 'F' of a repair, else 0 */
+    size_t value;  /* the result, as each function says */
 };
 
 /* Checks a book: 1 to 7 ("under 2 bytes", then 2, 3, 1, 4, 5, then list bytes from the first, 6 before 7 at one byte).

@@ -10,21 +10,21 @@
 
 unsigned long checks, failures;
 
-struct placement_reply refused(uint32_t number, uint32_t place)
+struct placement_reply refused(size_t number, size_t place)
 {
     struct placement_reply r = {number, place, 0, 0, 0};
     return r;
 }
 
-struct placement_reply value(uint32_t value)
+struct placement_reply value(size_t value)
 {
     struct placement_reply r = {0, 0, 0, 0, value};
     return r;
 }
 
-struct placement_reply answer(char letter, uint32_t distance)
+struct placement_reply answer(char letter, size_t distance)
 {
-    struct placement_reply r = {0, 0, 0, (uint32_t)letter, distance};
+    struct placement_reply r = {0, 0, 0, (size_t)letter, distance};
     return r;
 }
 
@@ -43,7 +43,7 @@ void expect_at(const char *file, int line, struct placement_reply got, struct pl
     if (got.number != due.number || got.place != due.place || got.second != due.second || got.letter != due.letter ||
         got.value != due.value) {
         failures++;
-        printf("%s:%d: got number %u, place %u, second %u, letter %u, value %u; due %u, %u, %u, %u, %u\n", file, line,
+        printf("%s:%d: got number %zu, place %zu, second %zu, letter %zu, value %zu; due %zu, %zu, %zu, %zu, %zu\n", file, line,
                got.number, got.place, got.second, got.letter, got.value, due.number, due.place, due.second, due.letter,
                due.value);
     }

@@ -13,9 +13,9 @@
 extern unsigned long checks, failures;
 
 /* Expected replies. */
-struct placement_reply refused(uint32_t number, uint32_t place);
-struct placement_reply value(uint32_t value);
-struct placement_reply answer(char letter, uint32_t distance);
+struct placement_reply refused(size_t number, size_t place);
+struct placement_reply value(size_t value);
+struct placement_reply answer(char letter, size_t distance);
 
 /* Compares a reply with the expected one. */
 void expect_at(const char *file, int line, struct placement_reply got, struct placement_reply due);

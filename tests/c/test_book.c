@@ -65,8 +65,8 @@ static void directory(void)
     struct book table_1 = book_of(7, table_1_lists);
     for (size_t at = 2; at < 58; at++) {
         uint8_t byte = table_1.bytes[at];
-        EXPECT(check_book(with(table_1, at, (uint8_t)(byte + 1))), refused(5, (uint32_t)(at - (at - 2) % 4)));
-        EXPECT(check_book(with(table_1, at, (uint8_t)(byte ^ 0x80))), refused(5, (uint32_t)(at - (at - 2) % 4)));
+        EXPECT(check_book(with(table_1, at, (uint8_t)(byte + 1))), refused(5, (size_t)(at - (at - 2) % 4)));
+        EXPECT(check_book(with(table_1, at, (uint8_t)(byte ^ 0x80))), refused(5, (size_t)(at - (at - 2) % 4)));
     }
     EXPECT(check_book(with(with(table_1, 54, 0), 14, 0)), refused(5, 14));
     EXPECT(check_book(with(with(table_1, 58, 7), 54, 0)), refused(5, 54));
@@ -80,12 +80,12 @@ static void entries(void)
     struct book table_1 = book_of(7, table_1_lists);
     for (size_t at = 58; at < 156; at++) {
         size_t first = at - (at - 58) % 7;
-        EXPECT(check_book(with(table_1, at, 7)), refused(6, (uint32_t)at));
-        EXPECT(check_book(with(table_1, at, 255)), refused(6, (uint32_t)at));
+        EXPECT(check_book(with(table_1, at, 7)), refused(6, (size_t)at));
+        EXPECT(check_book(with(table_1, at, 255)), refused(6, (size_t)at));
         if (at > first) {
             /* The first entry stands earlier; put in the first place, this entry is the one that stands later. */
-            EXPECT(check_book(with(table_1, at, table_1.bytes[first])), refused(7, (uint32_t)at));
-            EXPECT(check_book(with(table_1, first, table_1.bytes[at])), refused(7, (uint32_t)at));
+            EXPECT(check_book(with(table_1, at, table_1.bytes[first])), refused(7, (size_t)at));
+            EXPECT(check_book(with(table_1, first, table_1.bytes[at])), refused(7, (size_t)at));
         }
     }
     EXPECT(check_book(with(with(table_1, 70, 7), 60, 0)), refused(7, 60));
@@ -102,7 +102,7 @@ static void lists(void)
     struct book table_1 = book_of(7, table_1_lists), bad = with(table_1, 60, 7), large = xor_64();
     const uint8_t *book = fenced(0, table_1.bytes, 156);
     for (uint8_t k = 0; k < 7; k++) {
-        struct placement_reply student = {0, 58 + 7 * (uint32_t)k, 0, 0, 7}, mentor = {0, 107 + 7 * (uint32_t)k, 0, 0, 7};
+        struct placement_reply student = {0, 58 + 7 * (size_t)k, 0, 0, 7}, mentor = {0, 107 + 7 * (size_t)k, 0, 0, 7};
         EXPECT(placement_student_list(book, 156, k), student);
         EXPECT(placement_mentor_list(book, 156, k), mentor);
     }

@@ -12,7 +12,7 @@ static struct placement_reply check(struct book book, const uint8_t *matching, s
 }
 
 /* The reply of rule 10. */
-static struct placement_reply blocked(uint32_t student, uint32_t mentor)
+static struct placement_reply blocked(size_t student, size_t mentor)
 {
     struct placement_reply r = {10, student, mentor, 0, 0};
     return r;
@@ -41,12 +41,12 @@ static void not_matchings(void)
         uint8_t matching[7];
         memcpy(matching, table_1_m5, 7);
         matching[at] = 7;
-        EXPECT(check(table_1, matching, 7), refused(9, (uint32_t)at));
+        EXPECT(check(table_1, matching, 7), refused(9, (size_t)at));
         matching[at] = 255;
-        EXPECT(check(table_1, matching, 7), refused(9, (uint32_t)at));
+        EXPECT(check(table_1, matching, 7), refused(9, (size_t)at));
         if (at > 0) {
             matching[at] = table_1_m5[0];
-            EXPECT(check(table_1, matching, 7), refused(9, (uint32_t)at));
+            EXPECT(check(table_1, matching, 7), refused(9, (size_t)at));
         }
     }
     static const uint8_t twice[7] = {4, 5, 5, 9, 4, 2, 0}, longer[8] = {9, 9, 9, 9, 9, 9, 9, 9};

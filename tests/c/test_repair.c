@@ -30,7 +30,7 @@ static void table_1_repairs(void)
 {
     static const struct {
         char letter;
-        uint32_t distance;
+        size_t distance;
         uint8_t matching[7];
         int8_t gains[7];
     } due[7] = {

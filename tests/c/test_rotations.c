@@ -92,7 +92,7 @@ static void order(void)
     const uint8_t *book = fenced(0, table_1.bytes, 156);
     for (size_t second = 0; second < 6; second++) {
         for (size_t first = 0; first < 6; first++) {
-            uint32_t yes = 0;
+            size_t yes = 0;
             for (const char *digit = before[second]; *digit != 0; digit++) {
                 yes |= (size_t)(*digit - '0') == first;
             }

@@ -21,14 +21,14 @@ static struct placement_reply to_set(struct book book, const uint8_t *matching, 
 /* A set and its matching, both ways, with buffers that are right and longer. */
 static void there_and_back(struct book book, const uint8_t *set, size_t count, const uint8_t *matching)
 {
-    uint32_t n = (uint32_t)book.n;
+    size_t n = (size_t)book.n;
     EXPECT(to_matching(book, set, count, n), value(n));
     WROTE(&out, matching, n);
     EXPECT(to_matching(book, set, count, n + 3), value(n));
     WROTE(&out, matching, n);
-    EXPECT(to_set(book, matching, n, count), value((uint32_t)count));
+    EXPECT(to_set(book, matching, n, count), value((size_t)count));
     WROTE(&out, set, count);
-    EXPECT(to_set(book, matching, n, count + 3), value((uint32_t)count));
+    EXPECT(to_set(book, matching, n, count + 3), value((size_t)count));
     WROTE(&out, set, count);
 }
 

@@ -15,7 +15,7 @@ static struct placement_reply sheet(struct book input, size_t room)
 /* The sheet of an input, with buffers that are exact, longer, of 1,024 bytes, and too short. */
 static void prints(struct book input, const char *due)
 {
-    uint32_t length = (uint32_t)strlen(due);
+    size_t length = (size_t)strlen(due);
     const size_t rooms[3] = {length, length + 1, 1024};
     for (size_t k = 0; k < 3; k++) {
         EXPECT(sheet(input, rooms[k]), value(length));

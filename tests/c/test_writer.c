@@ -13,9 +13,9 @@ static void written(struct book book)
 {
     size_t start = 2 + 8 * book.n;
     const uint8_t *lists = book.bytes + start;
-    EXPECT(write_lists(book.n, lists, book.length - start, book.length), value((uint32_t)book.length));
+    EXPECT(write_lists(book.n, lists, book.length - start, book.length), value((size_t)book.length));
     WROTE(&out, book.bytes, book.length);
-    EXPECT(write_lists(book.n, lists, book.length - start, book.length + 9), value((uint32_t)book.length));
+    EXPECT(write_lists(book.n, lists, book.length - start, book.length + 9), value((size_t)book.length));
     WROTE(&out, book.bytes, book.length);
     EXPECT(write_lists(book.n, lists, book.length - start, book.length - 1), refused(14, 0));
     WROTE_NOTHING(&out);
@@ -39,12 +39,12 @@ static void refusals(void)
     for (size_t at = 0; at < 98; at++) {
         uint8_t kept = lists[at];
         lists[at] = 7;
-        EXPECT(write_lists(7, lists, 98, 156), refused(6, (uint32_t)at));
-        EXPECT(write_lists(7, lists, 98, 10), refused(6, (uint32_t)at));
+        EXPECT(write_lists(7, lists, 98, 156), refused(6, (size_t)at));
+        EXPECT(write_lists(7, lists, 98, 10), refused(6, (size_t)at));
         WROTE_NOTHING(&out);
         if (at % 7 != 0) {
             lists[at] = lists[at - 1];
-            EXPECT(write_lists(7, lists, 98, 156), refused(7, (uint32_t)at));
+            EXPECT(write_lists(7, lists, 98, 156), refused(7, (size_t)at));
             WROTE_NOTHING(&out);
         }
         lists[at] = kept;

@@ -25,7 +25,7 @@ impl Tally {
     pub fn count(&mut self, reply: Reply) {
         self.calls += 1;
         self.refusals[reply.number as usize] += 1;
-        if let Some(letter) = ['U', 'D', 'F'].iter().position(|&c| c as u32 == reply.letter) {
+        if let Some(letter) = ['U', 'D', 'F'].iter().position(|&c| c as usize == reply.letter) {
             self.letters[letter] += 1;
         }
     }

@@ -33,7 +33,7 @@ pub fn mentor_list(book: &[u8], mentor: u8) -> Reply {
 /// The reply of a list: its offset as the place, its length as the value.
 fn person(list: Checked<(usize, usize)>) -> Reply {
     match list {
-        Ok((offset, length)) => Reply { place: offset as u32, ..Reply::value(length) },
+        Ok((offset, length)) => Reply { place: offset as usize, ..Reply::value(length) },
         Err(refusal) => Reply::refused(refusal),
     }
 }
@@ -65,7 +65,7 @@ fn lend(out: &mut [u8], size: usize, write: impl FnOnce(&mut [u8])) -> Checked<u
 
 pub fn repair(book: &[u8], matching: &[u8], request: &[u8], out: &mut [u8], gains: &mut [i8]) -> Reply {
     match repaired(book, matching, request, out, gains) {
-        Ok(answer) => Reply { letter: answer.letter() as u32, ..Reply::value(answer.distance() as usize) },
+        Ok(answer) => Reply { letter: answer.letter() as usize, ..Reply::value(answer.distance() as usize) },
         Err(refusal) => Reply::refused(refusal),
     }
 }

@@ -18,7 +18,7 @@ pub fn stable(instance: &Instance, bytes: &[u8]) -> Checked<Matching> {
     let matching = read(instance.n, bytes)?;
     match first_blocking(instance, &matching) {
         None => Ok(matching),
-        Some((man, woman)) => Err(Refusal { number: 10, place: man as u32, second: woman as u32 }),
+        Some((man, woman)) => Err(Refusal { number: 10, place: man as usize, second: woman as usize }),
     }
 }
 

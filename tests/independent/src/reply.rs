@@ -3,21 +3,21 @@
 /// A broken rule of document 01's table: its number, its place, and for rule 10 the second place.
 #[derive(Clone, Copy, Debug, PartialEq, Eq)]
 pub struct Refusal {
-    pub number: u32,
-    pub place: u32,
-    pub second: u32,
+    pub number: usize,
+    pub place: usize,
+    pub second: usize,
 }
 
 /// A result, or the first rule that the input breaks.
 pub type Checked<T> = Result<T, Refusal>;
 
 /// The refusal by `number` at `place`.
-pub fn refused(number: u32, place: usize) -> Refusal {
-    Refusal { number, place: place as u32, second: 0 }
+pub fn refused(number: usize, place: usize) -> Refusal {
+    Refusal { number, place: place as usize, second: 0 }
 }
 
 /// Refuses by `number` at `place` when `broken`.
-pub fn rule(broken: bool, number: u32, place: usize) -> Checked<()> {
+pub fn rule(broken: bool, number: usize, place: usize) -> Checked<()> {
     if broken {
         Err(refused(number, place))
     } else {
@@ -29,17 +29,17 @@ pub fn rule(broken: bool, number: u32, place: usize) -> Checked<()> {
 #[repr(C)]
 #[derive(Clone, Copy, Debug, Default, PartialEq, Eq)]
 pub struct Reply {
-    pub number: u32,
-    pub place: u32,
-    pub second: u32,
-    pub letter: u32,
-    pub value: u32,
+    pub number: usize,
+    pub place: usize,
+    pub second: usize,
+    pub letter: usize,
+    pub value: usize,
 }
 
 impl Reply {
     /// The reply that carries a number and nothing else.
     pub fn value(value: usize) -> Reply {
-        Reply { value: value as u32, ..Reply::default() }
+        Reply { value: value as usize, ..Reply::default() }
     }
 
     /// The reply of a refusal.

@@ -95,7 +95,7 @@ impl Known {
     fn test_check(&self, given: &Matching) {
         let due = match self.market.first_blocking(given) {
             None => Reply::default(),
-            Some((m, w)) => Reply { number: 10, place: m as u32, second: w as u32, ..Reply::default() },
+            Some((m, w)) => Reply { number: 10, place: m as usize, second: w as usize, ..Reply::default() },
         };
         assert_eq!(calls::check_matching(&self.book, &bytes(given)), due);
     }
@@ -107,11 +107,11 @@ impl Known {
             let (mut out, mut gains) = (vec![99; n], vec![99; n]);
             let reply = calls::repair(&self.book, &bytes(given), &request, &mut out, &mut gains);
             let Some((letter, repaired)) = self.market.answer(&self.stable, given, man) else {
-                assert_eq!(reply, Reply { letter: b'F' as u32, ..Reply::default() });
+                assert_eq!(reply, Reply { letter: b'F' as usize, ..Reply::default() });
                 assert!(out.iter().all(|&b| b == 99) && gains.iter().all(|&g| g == 99));
                 continue;
             };
-            assert_eq!(reply, Reply { letter: letter as u32, ..Reply::value(distance(&repaired, given)) });
+            assert_eq!(reply, Reply { letter: letter as usize, ..Reply::value(distance(&repaired, given)) });
             assert_eq!(out, bytes(&repaired));
             let gain = |i: usize| self.market.place(i, given[i]) as i8 - self.market.place(i, repaired[i]) as i8;
             assert_eq!(gains, (0..n).map(gain).collect::<Vec<_>>());

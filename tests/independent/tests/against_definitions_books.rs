@@ -7,8 +7,8 @@ use independent::random::Random;
 use independent::reply::Reply;
 use independent::{book, calls, samples};
 
-fn refused(broken: (u32, usize)) -> Reply {
-    Reply { number: broken.0, place: broken.1 as u32, ..Reply::default() }
+fn refused(broken: (usize, usize)) -> Reply {
+    Reply { number: broken.0, place: broken.1 as usize, ..Reply::default() }
 }
 
 /// A book with some bytes changed, cut off or added.

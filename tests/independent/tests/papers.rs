@@ -18,7 +18,7 @@ fn sheet_of(book: &[u8], matching: &[u8]) -> String {
     String::from_utf8(sheet::text(&[book, matching].concat())).unwrap()
 }
 
-fn refused(number: u32, place: u32) -> Reply {
+fn refused(number: usize, place: usize) -> Reply {
     Reply { number, place, ..Reply::default() }
 }
 

@@ -1,7 +1,7 @@
 //! Rules 1 to 7 in the words of document 01.
 
 /// The first rule that a book breaks, with its place.
-pub fn first_broken(book: &[u8]) -> Option<(u32, usize)> {
+pub fn first_broken(book: &[u8]) -> Option<(usize, usize)> {
     if book.len() < 2 {
         return Some((1, book.len()));
     }
@@ -31,7 +31,7 @@ fn directory(book: &[u8], n: usize) -> Option<usize> {
 }
 
 /// The first entry that is n or more (6) or stands earlier in its list (7), from the first byte on.
-pub fn lists(lists: &[u8], n: usize) -> Option<(u32, usize)> {
+pub fn lists(lists: &[u8], n: usize) -> Option<(usize, usize)> {
     (0..lists.len()).find_map(|at| {
         let list_start = at - at % n;
         if lists[at] as usize >= n {
