@@ -2,6 +2,7 @@
 pub mod Choice
 pub mod Both
 pub mod First
+pub mod Within
 pub mod Every
 pub mod Marks
 pub mod Pigeon
@@ -15,4 +16,5 @@ pub mod Values
 pub mod Table
 pub mod Front
 pub mod Stores
+pub mod FrontStores
 pub mod Overwrite

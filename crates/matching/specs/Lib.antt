@@ -3,3 +3,11 @@ pub mod BookMarket
 pub mod Kernel
 pub mod Matching
 pub mod Extreme
+pub mod Numbers
+pub mod StableCheck
+pub mod StableVector
+pub mod Blocking
+pub mod TableCheck
+pub mod Judge
+pub mod JudgeLaws
+pub mod JudgedStable

@@ -11,6 +11,7 @@ use Rattle.instance.specs.Verdict.{Verdict, fine, refused, rule, andThen}
 use Rattle.instance.specs.Format.{byte, people}
 use Rattle.instance.specs.Lists.{firstFaulty}
 use Rattle.instance.specs.Check.{checkBook}
+use Rattle.stable_theory.specs.Matchings.Matching.{places}
 use Rattle.matching.specs.BookMarket.{market}
 
 -- The place of mentor w on student i's list, and of student i on mentor w's
@@ -23,6 +24,10 @@ womanRank b w i = market b .receivers .place w i
 -- The mentor at place k of student i's list
 abbrev pub manChoice : List ℕ → ℕ → ℕ → ℕ
 manChoice b i k = market b .proposers .at i k
+
+-- The place vector of a matching: where each student's mentor stands on his list
+abbrev pub vectorOf : List ℕ → List ℕ → ℕ → ℕ
+vectorOf b m = places (market b) (byte m)
 
 -- The student of mentor w in the matching m of n bytes, or n where she has none
 abbrev pub husband : ℕ → List ℕ → ℕ → ℕ
@@ -47,10 +52,12 @@ checkStable b m =
     let i = lowestBlocking b m in
     pick (ltb i (people b)) (refused 10 i (manChoice b i (bestBlocking b m i))) fine
 
--- The verdict on a matching: the book, 8, 9, 10. A clash is what rules 6 and 7 find in a list
+-- Rules 8 and 9: n bytes, and no clash, which is what rules 6 and 7 find in a list
+unfoldable pub checkNames : ℕ → List ℕ → Verdict
+checkNames n m =
+    rule (not (eqb (length m) n)) 8 0
+    (rule (ltb (firstFaulty n (byte m) n) n) 9 (firstFaulty n (byte m) n) fine)
+
+-- The verdict on a matching: the book, 8, 9, 10
 unfoldable pub checkMatching : List ℕ → List ℕ → Verdict
-checkMatching b m =
-    andThen (checkBook b)
-    (rule (not (eqb (length m) (people b))) 8 0
-    (rule (ltb (firstFaulty (people b) (byte m) (people b)) (people b)) 9 (firstFaulty (people b) (byte m) (people b))
-    (checkStable b m)))
+checkMatching b m = andThen (checkBook b) (andThen (checkNames (people b) m) (checkStable b m))

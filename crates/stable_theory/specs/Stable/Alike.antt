@@ -1,6 +1,6 @@
 -- Two markets with the same sizes, lists and places, and vectors that agree: what holds in one holds in the other. Assumes nothing.
 use Prim.Native.Nat.{ℕ, _<_}
-use mathlib.Core.Path.{_≡_, sym, _∙_, ap}
+use mathlib.Core.Path.{_≡_, refl, sym, _∙_, ap}
 use native.Mathlib.Omega.{arith}
 use Rattle.stable_theory.specs.Stable.Market.{Side, Market, Ranked, Mutual, Proper, exchange, Acceptable}
 use Rattle.stable_theory.specs.Stable.Vector.{Within, Holds, Reaches, Settled, Stable, Before, Mirror}
@@ -17,6 +17,13 @@ pub record AlikeSide (s t : Side) (others : ℕ) : Type 0 where
 pub record Alike (I J : Market) : Type 0 where
   pub proposing : AlikeSide (I .proposers) (J .proposers) (I .receivers .size)
   pub receiving : AlikeSide (I .receivers) (J .receivers) (I .proposers .size)
+
+-- a market is alike to itself
+side-refl : (s : Side) (n : ℕ) → AlikeSide s s n
+side-refl s n = record { size = refl; len = λ u. refl; at = λ u l. refl; place = λ u v. refl }
+
+pub alike-refl : (I : Market) → Alike I I
+alike-refl I = record { proposing = side-refl (I .proposers) (I .receivers .size); receiving = side-refl (I .receivers) (I .proposers .size) }
 
 -- with the roles exchanged
 pub alike-exchange : {I J : Market} → Alike I J → Alike (exchange I) (exchange J)
