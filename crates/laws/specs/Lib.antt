@@ -15,6 +15,7 @@ pub mod Largest
 pub mod Values
 pub mod Table
 pub mod Front
+pub mod Padded
 pub mod Stores
 pub mod FrontStores
 pub mod Overwrite

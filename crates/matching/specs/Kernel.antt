@@ -30,7 +30,7 @@ module _ {b lengths lists ranks : List ℕ} {n from : ℕ} (W : WellFormed b) (e
   lens-at : {i : ℕ} → i < n → vec lengths i ≡ listLength b (from + i)
   lens-at u = S .length-at u
 
-  lens-full : {i : ℕ} → i < n → vec lengths i ≡ n
+  pub lens-full : {i : ℕ} → i < n → vec lengths i ≡ n
   lens-full u = length-full source h S u
 
   -- a side's tables are alike to the side

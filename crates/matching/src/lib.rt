@@ -1,9 +1,19 @@
-// Matchings.
+// Matchings of a book: the check (rules 8 to 10), and the two extreme matchings.
+//
+// Contracts cite specs/, which follows document 01. What serves only the layers above works on the record of a book that is loaded
+// already, and has a `requires`; the functions on bytes have none.
 use instance::Checked;
 use instance::Instance;
 
+mod extreme;
 mod stability;
 
+pub use extreme::Proposers;
+pub use extreme::man_optimal;
+pub use extreme::man_optimal_places;
+pub use extreme::woman_optimal;
+pub use extreme::woman_optimal_places;
+pub use extreme::write_matching;
 pub use stability::check;
 pub use stability::judge;
 

@@ -4,4 +4,5 @@ pub mod Beaten
 pub mod LeastLaws
 pub mod LeastAlike
 pub mod Optimal
+pub mod OptimalAlike
 pub mod StableTest

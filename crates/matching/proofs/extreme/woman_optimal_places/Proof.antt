@@ -1,0 +1,15 @@
+-- `matching::extreme::woman_optimal_places` meets its contract: the tables in the other order, and the sides exchanged. Assumes nothing.
+use borrow.Author.Needs.{needs}
+use Rattle.matching.specs.ExtremePlaces.{women-best}
+use Rattle.matching.proofs.extreme.woman_optimal_places.Statement.{statement}
+use Rattle.matching.proofs.extreme.woman_optimal_places.Tie as tie
+
+proposer-optimal-requires : tie.Need-proposer-optimal-requires
+proposer-optimal-requires c κs = search needs
+
+returns : tie.Need-returns
+returns c =
+    women-best (c .before .before .before .before .before .before .before .before .before .before .before .before .before .before .pre) (c .before .before .proposer-optimal .ensures)
+
+pub woman-optimal-places-spec : {M : Type 1} → statement M
+woman-optimal-places-spec = tie.close (tie.spec proposer-optimal-requires returns)

@@ -1,0 +1,102 @@
+#!/usr/bin/env python3
+"""Writes the stored input and expected output of crates/matching_cases.
+
+    tests/make_matching_cases.py            writes crates/matching_cases/stdin and stdout
+    tests/make_matching_cases.py --check    says whether they are what it would write
+
+The books are built from ranked lists by document 01, section 'The book'. The expected lines are literals: the matchings of
+document 01, section 'Checked by hand', those of small books worked out by hand, and the refusals of its table. No code of the library is used.
+"""
+import pathlib
+import sys
+
+HERE = pathlib.Path(__file__).resolve().parent.parent / "crates" / "matching_cases"
+
+STUDENT_BEST, MENTOR_BEST = 0, 1
+
+
+def book(text):
+    """A book from its lists, students and then mentors, each a word of digits."""
+    lists = text.split()
+    n = len(lists) // 2
+    out = [1, n]
+    for k in range(2 * n):
+        offset = 2 + 8 * n + n * k
+        out += [offset % 256, offset // 256, n % 256, n // 256]
+    return out + [int(c) for c in "".join(lists)]
+
+
+def put(b, changes):
+    """The book with other bytes at some places."""
+    b = list(b)
+    for place, byte in changes.items():
+        b[place] = byte
+    return b
+
+
+NOBODY = [1, 0]
+ONE = book("0 0")
+# Document 01: students 0 1 and 1 0, mentors 1 0 and 0 1
+TWO = book("01 10 10 01")
+# Document 01: students 0 1 and 0 1, mentors 0 1 and 0 1
+SAME = book("01 01 01 01")
+# Table 1 of document 000
+TABLE_1 = book("""
+0652413 6145023 6031542 3201465 1203456 6103542 2506431
+2164530 0435261 2504316 6123405 4605312 3126540 4621305
+""")
+
+# (what is tried, call, bytes of the book, room, expected line)
+CASES = [
+    # Table 1's extremes, document 01
+    ("Table 1, student-best", STUDENT_BEST, TABLE_1, 7, "0 0 0 5 4 6 3 1 0 2"),
+    ("Table 1, mentor-best", MENTOR_BEST, TABLE_1, 7, "0 0 0 1 3 0 5 4 2 6"),
+    # Small books
+    ("n = 0, student-best", STUDENT_BEST, NOBODY, 0, "0 0 0"),
+    ("n = 0, mentor-best", MENTOR_BEST, NOBODY, 0, "0 0 0"),
+    ("n = 1, student-best", STUDENT_BEST, ONE, 1, "0 0 0 0"),
+    ("n = 1, mentor-best", MENTOR_BEST, ONE, 1, "0 0 0 0"),
+    ("two by two: each student has his first mentor", STUDENT_BEST, TWO, 2, "0 0 0 0 1"),
+    ("two by two: each mentor has her first student", MENTOR_BEST, TWO, 2, "0 0 0 1 0"),
+    ("two alike: one stable matching", STUDENT_BEST, SAME, 2, "0 0 0 0 1"),
+    ("two alike: one stable matching", MENTOR_BEST, SAME, 2, "0 0 0 0 1"),
+    # Nothing past the result is written
+    ("n = 0, room for three", STUDENT_BEST, NOBODY, 3, "0 0 0 255 255 255"),
+    ("n = 1, room for two", MENTOR_BEST, ONE, 2, "0 0 0 0 255"),
+    ("Table 1, student-best, room for eight", STUDENT_BEST, TABLE_1, 8, "0 0 0 5 4 6 3 1 0 2 255"),
+    ("Table 1, mentor-best, room for nine", MENTOR_BEST, TABLE_1, 9, "0 0 0 1 3 0 5 4 2 6 255 255"),
+    # 14 sheet: the buffer is too short, and nothing is written
+    ("n = 1, no room", STUDENT_BEST, ONE, 0, "14 0 0"),
+    ("two by two, room for one", MENTOR_BEST, TWO, 1, "14 0 0 255"),
+    ("Table 1, room for six", STUDENT_BEST, TABLE_1, 6, "14 0 0 255 255 255 255 255 255"),
+    ("Table 1, room for six", MENTOR_BEST, TABLE_1, 6, "14 0 0 255 255 255 255 255 255"),
+    # The book's rules come before 14, and nothing is written
+    ("no bytes", STUDENT_BEST, [], 2, "1 0 0 255 255"),
+    ("two by two, one byte short", STUDENT_BEST, TWO[:25], 2, "1 25 0 255 255"),
+    ("edition 2", MENTOR_BEST, put(TWO, {0: 2}), 2, "2 0 0 255 255"),
+    ("n = 65", STUDENT_BEST, put(TWO, {1: 65}), 2, "3 1 0 255 255"),
+    ("one byte more", MENTOR_BEST, TWO + [0], 2, "4 26 0 255 255"),
+    ("second directory pair", STUDENT_BEST, put(TWO, {8: 3}), 2, "5 6 0 255 255"),
+    ("first entry is 2", MENTOR_BEST, put(TWO, {18: 2}), 2, "6 18 0 255 255"),
+    ("second entry is the first", STUDENT_BEST, put(TWO, {19: 0}), 2, "7 19 0 255 255"),
+    ("7 before 14", MENTOR_BEST, put(TWO, {19: 0}), 1, "7 19 0 255"),
+    ("1 before 14", STUDENT_BEST, [1, 2], 0, "1 2 0"),
+]
+
+
+def main():
+    stdin = b"".join(bytes([call, room, len(b) % 256, len(b) // 256] + b) for _, call, b, room, _ in CASES)
+    stdout = "".join(line + "\n" for _, _, _, _, line in CASES).encode()
+    if len(stdin) > 65536:
+        sys.exit(f"{len(stdin)} bytes of input: the program takes 65536")
+    files = {HERE / "stdin": stdin, HERE / "stdout": stdout}
+    if sys.argv[1:] == ["--check"]:
+        bad = [str(p) for p, text in files.items() if p.read_bytes() != text]
+        sys.exit(f"not as written by this script: {', '.join(bad)}" if bad else 0)
+    for path, text in files.items():
+        path.write_bytes(text)
+    print(f"{len(CASES)} cases, {len(stdin)} bytes of input")
+
+
+if __name__ == "__main__":
+    main()
