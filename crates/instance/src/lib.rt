@@ -11,6 +11,7 @@ mod writer;
 
 pub use book::check;
 pub use book::refuse;
+pub use field::size_of;
 pub use field::wide;
 pub use lists::first_faulty;
 pub use person::check_man;

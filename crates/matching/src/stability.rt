@@ -183,8 +183,8 @@ fn check_stable<'a, 'b>(
         return Checked::Fine;
     }
     let end = deferred::wide(men[i]);
-    let k = first_willing(n, lists, ranks, women, i, end);
-    let w = entry(lists, n, i, k);
+    let stop = first_willing(n, lists, ranks, women, i, end);
+    let w = entry(lists, n, i, stop);
     Checked::Refused(Refusal {
         number: 10,
         place: i,

@@ -40,16 +40,15 @@ found : (c : tie.After-first-willing)
     (c .before .before .before .before .lowest-willing .result) (c .before .wide .result) (c .first-willing .result)
 found c = record { ends = c .before .wide .ensures .0; stops = c .first-willing .ensures }
 
--- it stops before his place, so on the list
-stops : (c : tie.After-first-willing) → c .first-willing .result < c .before .before .before .before .before .before .before .before .before .args .n
+-- it stops before his place, which is on the list
+stops : (c : tie.After-first-willing) → (c .first-willing .result < c .before .wide .result) × (c .before .wide .result < c .before .before .before .before .before .before .before .before .before .args .n)
 stops c =
-    let s = c .before .before .before .before .before .before .before .before .before in
     let l = c .before .before .before .if1 .left in
-    omega (arith, tables-found _ _ _ _ (c .before .before .before .before .lowest-willing .ensures) l (found c), c .before .wide .ensures .0, s .pre .1 .below l)
+    (tables-found _ _ _ _ (c .before .before .before .before .lowest-willing .ensures) l (found c), omega (arith, c .before .wide .ensures .0, c .before .before .before .before .before .before .before .before .before .pre .1 .below l))
 
 entry-requires : tie.Need-entry-requires
 entry-requires c κs =
-    search-cell (c .before .before .before .before .before .before .before .before .before .pre .0) (c .before .before .before .if1 .left) (stops c)
+    search-cell (c .before .before .before .before .before .before .before .before .before .pre .0) (c .before .before .before .if1 .left) (omega (arith, stops c .0, stops c .1))
 
 returns-2 : tie.Need-returns-2
 returns-2 c =

@@ -1,6 +1,6 @@
 -- `matching::stability::first_willing` meets its contract. The loop's invariant: no woman before place k is willing.
 -- The measure is the number of places left. Assumes nothing.
-use Prim.Native.Nat.{_-_}
+use Prim.Native.Nat.{_-_, _<_}
 use mathlib.Core.Path.{sym}
 use native.Mathlib.Omega.{arith}
 use denote.Ref.{now}
@@ -44,7 +44,8 @@ mul-wide c = omega arith
 shared-slice-read-wide : tie.Need-shared-slice-read-wide Inv-loop μ-loop
 shared-slice-read-wide c =
     let s = c .before .before .before .before .before .before .before .before in
-    search-woman (s .pre .0) (s .pre .1 .0) (omega arith) (c .before .before .entry .ensures .0)
+    let l : c .before .before .before .before .loop .k < s .args .n = omega arith in
+    omega (arith, search-woman (s .pre .0) (s .pre .1 .0) l (c .before .before .entry .ensures .0))
 
 wide-requires : tie.Need-wide-requires Inv-loop μ-loop
 wide-requires c κs = tt

@@ -1,0 +1,2 @@
+-- What the replies of the C interface say. Assumes nothing.
+pub mod Replies
