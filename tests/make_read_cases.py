@@ -121,18 +121,23 @@ CASES = [
 ]
 
 
-def main():
-    stdin = b"".join(bytes([len(b) % 256, len(b) // 256] + b) for _, b, _, _ in CASES)
-    stdout = "".join(f"{number} {place}\n" for _, _, number, place in CASES).encode()
+def store(folder, cases, stdin, stdout):
+    """Writes a program's input and expected output, or with --check says whether they are so."""
     if len(stdin) > 65536:
         sys.exit(f"{len(stdin)} bytes of input: the program takes 65536")
-    files = {HERE / "stdin": stdin, HERE / "stdout": stdout}
+    files = {folder / "stdin": stdin, folder / "stdout": stdout.encode()}
     if sys.argv[1:] == ["--check"]:
         bad = [str(p) for p, text in files.items() if p.read_bytes() != text]
         sys.exit(f"not as written by this script: {', '.join(bad)}" if bad else 0)
     for path, text in files.items():
         path.write_bytes(text)
-    print(f"{len(CASES)} cases, {len(stdin)} bytes of input")
+    print(f"{len(cases)} cases, {len(stdin)} bytes of input")
+
+
+def main():
+    stdin = b"".join(bytes([len(b) % 256, len(b) // 256] + b) for _, b, _, _ in CASES)
+    stdout = "".join(f"{number} {place}\n" for _, _, number, place in CASES)
+    store(HERE, CASES, stdin, stdout)
 
 
 if __name__ == "__main__":

@@ -1,5 +1,5 @@
 -- The check of a book: document 01's table, rules 1 to 7, in the order in which they are tried. Assumes nothing.
-use Prim.Native.Nat.{ℕ, _+_, _*_, _≤_}
+use Prim.Native.Nat.{ℕ, _+_, _*_, _≤_, _<_}
 use mathlib.Core.Path.{_≡_}
 use mathlib.Core.List.{List}
 use mathlib.Core.Bool.{Bool, not}
@@ -40,3 +40,8 @@ pub record Sized (b : List ℕ) (n : ℕ) : Type 0 where
 pub record Filed (b : List ℕ) (n : ℕ) : Type 0 where
   pub sized : Sized b n
   pub filed : firstMisfiled b ≡ 2 * n
+
+-- What is known of list k then: it and its directory pair lie within the book
+pub record Listed (b : List ℕ) (k : ℕ) : Type 0 where
+  pub pair : 5 + 4 * k < length b
+  pub within : offset b k + listLength b k ≤ length b

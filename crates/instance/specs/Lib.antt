@@ -1,23 +1,17 @@
--- The format of an instance, document 01's book: what the contracts of src/ cite, in the order of document 01. Assumes nothing.
+-- The format of an instance, document 01's book: what the contracts of src/ cite and what it means, in the order of document 01, and then
+-- the laws that the proofs of src/ cite. Assumes nothing.
 pub mod Verdict
 pub mod Format
+pub mod Sizes
 pub mod Lists
 pub mod Faults
-pub mod Holds
 pub mod Check
-pub mod Stages
-pub mod Filing
-pub mod Directory
 pub mod WellFormed
-pub mod Place
-pub mod Sizes
-pub mod Person
-pub mod Record
-pub mod Fills
-pub mod Ranks
 pub mod Write
-pub mod Given
 pub mod Writable
-pub mod Written
-pub mod Filling
 pub mod RoundTrip
+pub mod Person
+pub mod Place
+pub mod Record
+pub mod Ranks
+pub mod Laws

@@ -22,6 +22,12 @@ faulty n l j = either (stranger n l j) (repeat l j)
 unfoldable pub firstFaulty : ℕ → (ℕ → ℕ) → ℕ → ℕ
 firstFaulty n l len = first (faulty n l) len
 
+-- Rules 6 and 7 over one list whose entries stand one a byte from place `at` on: its first faulty entry is refused, 6 before 7
+unfoldable pub checkList : ℕ → (ℕ → ℕ) → ℕ → ℕ → Verdict
+checkList n l len at =
+    let j = firstFaulty n l len in
+    rule (ltb j len) (pick (stranger n l j) 6 7) (at + j) fine
+
 -- List k has a faulty entry. List k is e k, with len k entries
 abbrev pub faultyList : ℕ → (ℕ → ℕ → ℕ) → (ℕ → ℕ) → ℕ → Bool
 faultyList n e len k = ltb (firstFaulty n (e k) (len k)) (len k)

@@ -1,6 +1,6 @@
 -- The rank table and the list table of a side are inverse on 0 … n − 1, for every n. Assumes nothing.
-use Prim.Native.Nat.{ℕ, _+_, _*_, _<_, _≤_}
-use mathlib.Core.Path.{_≡_, refl, sym, _∙_, ap}
+use Prim.Native.Nat.{ℕ, _+_, _<_, _≤_}
+use mathlib.Core.Path.{_≡_, refl, _∙_, ap}
 use mathlib.Core.List.{List}
 use native.Mathlib.Omega.{arith}
 use lib.ListN.{getD}
@@ -8,9 +8,10 @@ use Rattle.laws.specs.Table.{cell}
 use Rattle.instance.specs.Verdict.{Verdict, fine, refused}
 use Rattle.instance.specs.Format.{people, entry}
 use Rattle.instance.specs.Check.{checkBook}
-use Rattle.instance.specs.WellFormed.{WellFormed, fine-well-formed}
-use Rattle.instance.specs.Place.{place, place-lt, entry-at-place, place-of-entry}
+use Rattle.instance.specs.WellFormed.{fine-well-formed}
+use Rattle.instance.specs.Place.{place}
 use Rattle.instance.specs.Record.{SideTables, Source, numberIf}
+use Rattle.instance.specs.Laws.Sides.{FullList, side-list}
 
 -- what `Recorded` says of n: the book is well formed, or n is 0
 pub recorded-source : (b : List ℕ) → Source b (numberIf (checkBook b) (people b))
@@ -24,34 +25,23 @@ recorded-source b = by-verdict (checkBook b) refl
         record { formed = λ h. absurd (omega arith); number = λ h. absurd (omega arith); few = omega arith }
 
 module _ {b lengths lists ranks : List ℕ} {n from : ℕ} (F : Source b n) (h : from ≤ n) (S : SideTables b n from lengths lists ranks) {i : ℕ} (u : i < n) where
-  formed : WellFormed b
-  formed = F .formed (omega arith)
-
-  number : n ≡ people b
-  number = F .number (omega arith)
-
-  lies : from + i < 2 * people b
-  lies = omega (arith, number)
+  full : FullList b n (from + i)
+  full = side-list F h u
 
   -- every list has n entries
   pub length-full : getD lengths i 0 ≡ n
-  length-full = S .length-at u ∙ formed .lengths lies ∙ sym number
+  length-full = S .length-at u ∙ full .long
 
   -- entries and ranks are below n
   pub list-lt : {j : ℕ} → j < n → cell lists n i j < n
-  list-lt {j} v = omega (arith, S .lists-done .cells u v, number, formed .names lies .below (below v))
-    where
-      below : {k : ℕ} → k < n → k < people b
-      below l = omega (arith, number)
+  list-lt v = omega (arith, S .lists-done .cells u v, full .names .below v)
 
   pub rank-lt : {w : ℕ} → w < n → cell ranks n i w < n
-  rank-lt {w} v = omega (arith, S .ranks-done .cells u v, number, place-lt formed lies {w = w} (omega (arith, number)))
+  rank-lt v = omega (arith, S .ranks-done .cells u v, full .place-small v)
 
   -- the rank of entry j is j, and at the rank of w stands w
   pub rank-of-list : {j : ℕ} → j < n → cell ranks n i (cell lists n i j) ≡ j
-  rank-of-list {j} v =
-      S .ranks-done .cells u (list-lt v) ∙ ap (place b (from + i)) (S .lists-done .cells u v) ∙ place-of-entry formed lies (omega (arith, number))
+  rank-of-list v = S .ranks-done .cells u (list-lt v) ∙ ap (place b (from + i)) (S .lists-done .cells u v) ∙ full .place-back v
 
   pub list-of-rank : {w : ℕ} → w < n → cell lists n i (cell ranks n i w) ≡ w
-  list-of-rank {w} v =
-      S .lists-done .cells u (rank-lt v) ∙ ap (entry b (from + i)) (S .ranks-done .cells u v) ∙ entry-at-place formed lies (omega (arith, number))
+  list-of-rank v = S .lists-done .cells u (rank-lt v) ∙ ap (entry b (from + i)) (S .ranks-done .cells u v) ∙ full .at-place v

@@ -8,7 +8,7 @@ use native.Mathlib.Nat.{mul-assoc}
 use lib.ListN.{length, getD, drop, length-drop}
 use lib.Seq.{getD-drop, ext-getD}
 use Rattle.laws.specs.Choice.{split}
-use Rattle.laws.specs.Onto.{Into}
+use Rattle.laws.specs.Onto.{into-cong}
 use Rattle.laws.specs.Table.{in-rows}
 use Rattle.instance.specs.Verdict.{Verdict, fine}
 use Rattle.instance.specs.Format.{byte, people, offset, listLength, listsStart, entry, size}
@@ -16,7 +16,7 @@ use Rattle.instance.specs.Check.{checkBook}
 use Rattle.instance.specs.WellFormed.{WellFormed, fine-well-formed}
 use Rattle.instance.specs.Write.{given, checkWrite, pairBytes, bookOf, written}
 use Rattle.instance.specs.Writable.{Writable, writable, fine-write}
-use Rattle.instance.specs.Written.{list-byte, pair-byte, written-offset, written-length, written-entry, written-people, written-size}
+use Rattle.instance.specs.Laws.Written.{list-byte, pair-byte, written-offset, written-length, written-entry, written-people, written-size}
 
 -- Every element is a byte
 abbrev pub Bytes : List ℕ → Type 0
@@ -45,14 +45,6 @@ read-back n l e =
       entries = λ k j h. written-entry n l j h;
     }
 
--- the same entries name the same members
-into-cong : {m n : ℕ} {f g : ℕ → ℕ} → ((i : ℕ) → i < m → f i ≡ g i) → Into m n g → Into m n f
-into-cong q I =
-    record {
-      below = λ {i} u. omega (arith, q i u, I .below u);
-      apart = λ {i} {j} u v e. I .apart u v (sym (q i u) ∙ e ∙ q j v);
-    }
-
 -- What the writer writes is a well formed book
 pub written-well-formed : (n : ℕ) (l : List ℕ) (room : ℕ) → checkWrite n l room ≡ fine → checkBook (bookOf n l) ≡ fine
 unfolding bookOf
@@ -66,7 +58,7 @@ written-well-formed n l room e =
       long = R .long;
       starts = λ {k} h. R .start k h;
       lengths = λ {k} h. R .len k h;
-      names = λ {k} h. into-cong (λ j u. R .entries k j h) (W .names k h);
+      names = λ {k} h. into-cong (W .names k h) (λ j u. R .entries k j h);
     })
 
 module _ (b : List ℕ) (W : WellFormed b) where
@@ -87,7 +79,7 @@ module _ (b : List ℕ) (W : WellFormed b) where
   list-writable room h =
       record {
         counted = record { few = W .few; long = list-count };
-        names = λ k u. into-cong (λ j v. sym (list-entry k j u)) (W .names u);
+        names = λ k u. into-cong (W .names u) (λ j v. sym (list-entry k j u));
         fits = h;
       }
 

@@ -7,17 +7,16 @@ use mathlib.Core.List.{List}
 use native.Mathlib.Omega.{arith}
 use native.Mathlib.Nat.{suc-mul}
 use lib.ListN.{length}
-use borrow.Author.Tests.{eq-eqb, ltb-false, le-ltb}
+use borrow.Author.Tests.{eq-eqb, ltb-false}
 use Rattle.laws.specs.Choice.{both}
-use Rattle.laws.specs.First.{first-miss, some-false}
+use Rattle.laws.specs.First.{some-false}
 use Rattle.laws.specs.Onto.{Into}
 use Rattle.instance.specs.Verdict.{fine}
 use Rattle.instance.specs.Format.{largest, byte, people, offset, listLength, listsStart, due, entry, size}
-use Rattle.instance.specs.Lists.{firstFaulty, faultyList, firstFaultyList}
-use Rattle.instance.specs.Faults.{lists-fine, lists-none, faultless}
 use Rattle.instance.specs.Check.{filed, firstMisfiled, checkBook, Sized}
-use Rattle.instance.specs.Stages.{Opened, check-filed, fine-opened, fine-sized, fine-filed, fine-lists}
-use Rattle.instance.specs.Directory.{offset-at, length-at}
+use Rattle.instance.specs.Faults.{lists-into}
+use Rattle.instance.specs.Laws.Stages.{Opened, check-filed, fine-passed}
+use Rattle.instance.specs.Laws.Directory.{offset-at, length-at}
 
 -- A well formed book of n students and n mentors
 pub record WellFormed (b : List ℕ) : Type 0 where
@@ -34,22 +33,18 @@ pub record WellFormed (b : List ℕ) : Type 0 where
 
 -- where nothing is refused the book is well formed
 passed : (b : List ℕ) → checkBook b ≡ fine → WellFormed b
-unfolding firstFaultyList
 passed b e =
+    let P = fine-passed b e in
     record {
-      edition = fine-opened b e .edition;
-      few = fine-opened b e .few;
-      long = fine-sized b e .long;
-      starts = λ h. offset-at (fine-filed b e) h;
-      lengths = λ h. length-at (fine-filed b e) h;
-      names = λ {k} h. subst (λ (len : ℕ). Into len (people b) (entry b k)) (length-at (fine-filed b e) h) (faultless (people b) (entry b k) (listLength b k) .0 (clean k h));
+      edition = P .opened .edition;
+      few = P .opened .few;
+      long = P .filed .sized .long;
+      starts = λ h. offset-at (P .filed) h;
+      lengths = λ h. length-at (P .filed) h;
+      names = λ {k} h.
+          subst (λ (len : ℕ). Into len (people b) (entry b k)) (length-at (P .filed) h)
+          (lists-into (people b) (entry b) (listLength b) (offset b) (2 * people b) .0 (P .lists) k h);
     }
-  where
-    clean : (k : ℕ) → k < 2 * people b → listLength b k ≤ firstFaulty (people b) (entry b k) (listLength b k)
-    clean k h =
-        ltb-false _ _
-        (first-miss (faultyList (people b) (entry b) (listLength b)) (2 * people b) k
-        (omega (arith, lists-none (people b) (entry b) (listLength b) (offset b) (2 * people b) (fine-lists b e))))
 
 -- in a well formed book nothing is refused
 module _ {b : List ℕ} (W : WellFormed b) where
@@ -74,17 +69,11 @@ module _ {b : List ℕ} (W : WellFormed b) where
       (some-false (λ k. not (filed b k))
       (λ k (h : k < 2 * people b). ap₂ (λ (s t : Bool). not (both s t)) (eq-eqb _ _ (W .starts h ∙ sym (due-so k h))) (eq-eqb _ _ (W .lengths h))))
 
-  no-fault : 2 * people b ≤ firstFaultyList (people b) (entry b) (listLength b) (2 * people b)
-  unfolding firstFaultyList
-  no-fault =
-      ltb-false _ _
-      (some-false (faultyList (people b) (entry b) (listLength b))
-      (λ k (h : k < 2 * people b).
-      le-ltb _ _ (faultless (people b) (entry b k) (listLength b k) .1 (subst⁻¹ (λ (len : ℕ). Into len (people b) (entry b k)) (W .lengths h) (W .names h)))))
-
   nothing-refused : checkBook b ≡ fine
   nothing-refused =
-      check-filed opened sized-so refl in-place ∙ lists-fine (people b) (entry b) (listLength b) (offset b) (2 * people b) no-fault
+      check-filed opened sized-so refl in-place
+      ∙ lists-into (people b) (entry b) (listLength b) (offset b) (2 * people b) .1
+      (λ k (h : k < 2 * people b). subst⁻¹ (λ (len : ℕ). Into len (people b) (entry b k)) (W .lengths h) (W .names h))
 
 -- Nothing is refused in a book exactly where it is well formed
 pub fine-well-formed : (b : List ℕ) → checkBook b ≡ fine ↔ WellFormed b

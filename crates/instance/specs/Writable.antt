@@ -1,34 +1,17 @@
--- What the writer is given, in document 01's words, and that no rule stands against it exactly then. Assumes nothing.
+-- What the writer is given, in document 01's words, that no rule stands against it exactly then, and what is written. Assumes nothing.
 use Prim.Native.Nat.{ℕ, _*_, _≤_, _<_}
-use mathlib.Core.Path.{_≡_}
+use mathlib.Core.Path.{_≡_, ap}
 use mathlib.Core.Logic.{_↔_}
-use mathlib.Core.List.{List}
+use mathlib.Core.List.{List, _++_}
 use native.Mathlib.Omega.{arith}
 use lib.Dec.{ltb}
-use lib.ListN.{length}
+use lib.ListN.{length, drop}
 use borrow.Author.Tests.{ltb-false, le-ltb}
-use Rattle.laws.specs.First.{first-miss, some-false}
 use Rattle.laws.specs.Onto.{Into}
-use Rattle.instance.specs.Verdict.{fine, rule-fine, all-fine}
+use Rattle.instance.specs.Verdict.{Verdict, fine, refused, rule-fine, all-fine}
 use Rattle.instance.specs.Format.{largest, size}
-use Rattle.instance.specs.Lists.{faultyList, firstFaultyList, checkLists}
-use Rattle.instance.specs.Faults.{lists-fine, lists-none, faultless}
-use Rattle.instance.specs.Write.{Counted, given, checkGiven, checkWrite}
-
--- no list breaks rule 6 or 7 exactly where each has entries below n, and none twice
-pub lists-into : (n : ℕ) (e : ℕ → ℕ → ℕ) (len start : ℕ → ℕ) (lists : ℕ) → checkLists n e len start lists ≡ fine ↔ ((k : ℕ) → k < lists → Into (len k) n (e k))
-unfolding firstFaultyList
-lists-into n e len start lists = (to, from)
-  where
-    to : checkLists n e len start lists ≡ fine → (k : ℕ) → k < lists → Into (len k) n (e k)
-    to q k h =
-        faultless n (e k) (len k) .0
-        (ltb-false _ _ (first-miss (faultyList n e len) lists k (omega (arith, lists-none n e len start lists q))))
-
-    from : ((k : ℕ) → k < lists → Into (len k) n (e k)) → checkLists n e len start lists ≡ fine
-    from I =
-        lists-fine n e len start lists
-        (ltb-false _ _ (some-false (faultyList n e len) (λ k (h : k < lists). le-ltb _ _ (faultless n (e k) (len k) .1 (I k h)))))
+use Rattle.instance.specs.Write.{Counted, given, checkGiven, checkWrite, bookOf, written}
+use Rattle.instance.specs.Faults.{lists-into}
 
 -- n, the list bytes and the room for the book are such that it is written
 pub record Writable (n : ℕ) (l : List ℕ) (room : ℕ) : Type 0 where
@@ -67,3 +50,11 @@ module _ {n : ℕ} {l : List ℕ} {room : ℕ} where
 -- The writer refuses nothing exactly then
 pub fine-writable : (n : ℕ) (l : List ℕ) (room : ℕ) → checkWrite n l room ≡ fine ↔ Writable n l room
 fine-writable n l room = (writable, fine-write)
+
+-- on a refusal the buffer stays as it was, and else it has the book
+module _ {v : Verdict} (n : ℕ) (l out : List ℕ) where
+  pub written-refused : {number place second : ℕ} → v ≡ refused number place second → written v n l out ≡ out
+  written-refused e = ap (λ (u : Verdict). written u n l out) e
+
+  pub written-fine : v ≡ fine → written v n l out ≡ bookOf n l ++ drop (size n) out
+  written-fine e = ap (λ (u : Verdict). written u n l out) e

@@ -1,30 +1,19 @@
 // The check of a book.
 use crate::Checked;
 use crate::Instance;
-use crate::Refusal;
 use crate::field::length_of;
 use crate::field::list_of;
 use crate::field::offset_of;
 use crate::field::size_of;
 use crate::field::wide;
-use crate::lists::first_faulty;
+use crate::lists::check_list;
+use crate::refuse;
 ghost use mathlib.Core.Path.{_≡_};
 ghost use Prim.Native.Nat.{_+_, _*_};
-ghost use Rattle.instance.specs.Verdict.{verdictOf, broken};
-ghost use Rattle.instance.specs.Format.{offset, listLength, entry, size};
-ghost use Rattle.instance.specs.Lists.{firstFaultyList, checkLists};
+ghost use Rattle.instance.specs.Verdict.{verdictOf};
+ghost use Rattle.instance.specs.Format.{offset, listLength, entry};
+ghost use Rattle.instance.specs.Lists.{checkLists};
 ghost use Rattle.instance.specs.Check.{firstMisfiled, checkBook, Sized, Filed};
-
-// A refusal by its number and place.
-pub fn refuse(number: u8, place: usize) -> Checked
-    ensures { λ r. ⌜ verdictOf r ≡ broken number place ⌝ }
-{
-    Checked::Refused(Refusal {
-        number,
-        place,
-        second: 0,
-    })
-}
 
 // Says whether a book is well formed, or the first rule that it breaks and where.
 pub fn check(book: &[u8]) -> Checked
@@ -77,36 +66,19 @@ fn first_misfiled(book: &[u8], n: usize) -> usize
     k
 }
 
-// The first list with an entry that breaks rule 6 or 7, or 2 * n.
-fn first_faulty_list(book: &[u8], n: usize) -> usize
-    requires { ⌜ Filed (now book) n ⌝ }
-    ensures { λ r. ⌜ r ≡ firstFaultyList n (entry (now (book .entry))) (listLength (now (book .entry))) (2 * n) ⌝ }
-{
-    let mut k = 0;
-    while k < 2 * n {
-        let list = list_of(book, k);
-        if first_faulty(list, n) < list.len() {
-            return k;
-        }
-        k += 1;
-    }
-    k
-}
-
-// Rules 6 and 7: the first list that breaks one, and in it the first entry.
+// Rules 6 and 7: the verdict on the first list that breaks one.
 fn check_lists(book: &[u8], n: usize) -> Checked
     requires { ⌜ Filed (now book) n ⌝ }
     ensures { λ r. ⌜ verdictOf r ≡ checkLists n (entry (now (book .entry))) (listLength (now (book .entry))) (offset (now (book .entry))) (2 * n) ⌝ }
 {
-    let k = first_faulty_list(book, n);
-    if 2 * n <= k {
-        return Checked::Fine;
+    let mut k = 0;
+    while k < 2 * n {
+        let at = offset_of(book, k);
+        let checked = check_list(list_of(book, k), n, at);
+        let Checked::Fine = checked else {
+            return checked;
+        };
+        k += 1;
     }
-    let list = list_of(book, k);
-    let j = first_faulty(list, n);
-    let at = offset_of(book, k);
-    if n <= wide(list[j]) {
-        return refuse(6, at + j);
-    }
-    refuse(7, at + j)
+    Checked::Fine
 }

@@ -1,9 +1,9 @@
-// Reads of a book: single fields, and one list.
+// Reads: numbers and parts of some bytes; of a book, the directory and one list; and its size.
 ghost use mathlib.Core.Path.{_≡_};
-ghost use Prim.Native.Nat.{_+_, _*_, _<_};
-ghost use lib.ListN.{length};
-ghost use Rattle.instance.specs.Format.{word, offset, listLength, stretch, size};
-ghost use Rattle.instance.specs.Directory.{Listed};
+ghost use Prim.Native.Nat.{_+_, _*_, _<_, _≤_};
+ghost use lib.ListN.{length, take, drop};
+ghost use Rattle.instance.specs.Format.{largest, word, offset, listLength, stretch, size};
+ghost use Rattle.instance.specs.Check.{Listed};
 
 // A byte as a number.
 pub fn wide(x: u8) -> usize
@@ -20,6 +20,15 @@ pub(crate) fn word_at(b: &[u8], at: usize) -> usize
     let low = wide(b[at]);
     let high = wide(b[at + 1]);
     low + 256 * high
+}
+
+// The `len` bytes from `at` on.
+pub(crate) fn bytes_at(b: &[u8], at: usize, len: usize) -> &[u8]
+    requires { ⌜ at + len ≤ length (now b) ⌝ }
+    ensures { λ r. ⌜ now r ≡ take len (drop at (now (b .entry))) ⌝ }
+{
+    let end = at + len;
+    &b[at..end]
 }
 
 // The offset of list k, from the directory.
@@ -45,13 +54,12 @@ pub(crate) fn list_of(b: &[u8], k: usize) -> &[u8]
 {
     let at = offset_of(b, k);
     let len = length_of(b, k);
-    let end = at + len;
-    &b[at..end]
+    bytes_at(b, at, len)
 }
 
 // How many bytes a book of n men and n women has.
-pub fn size_of(n: usize) -> usize
-    requires { ⌜ n < 256 ⌝ }
+pub(crate) fn size_of(n: usize) -> usize
+    requires { ⌜ n ≤ largest ⌝ }
     ensures { λ r. ⌜ r ≡ size n ⌝ }
 {
     2 + 8 * n + 2 * (n * n)

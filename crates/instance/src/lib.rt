@@ -1,7 +1,8 @@
 // The format of an instance, document 01's book: the check (rules 1 to 7), one person's list, the writer,
 // and the record whose tables the other crates work on.
 //
-// Contracts cite specs/, which follows document 01 paragraph by paragraph. No public function has a `requires`.
+// Contracts cite specs/, which follows document 01 paragraph by paragraph; specs/Laws/ has what the proofs cite. No public function has
+// a `requires`.
 mod book;
 mod field;
 mod lists;
@@ -9,9 +10,9 @@ mod person;
 mod record;
 mod writer;
 
+ghost use mathlib.Core.Path.{_≡_};
+ghost use Rattle.instance.specs.Verdict.{verdictOf, broken};
 pub use book::check;
-pub use book::refuse;
-pub use field::size_of;
 pub use field::wide;
 pub use lists::first_faulty;
 pub use person::check_man;
@@ -34,6 +35,17 @@ pub struct Refusal {
 pub enum Checked {
     Fine,
     Refused(Refusal),
+}
+
+// A refusal by its number and place.
+pub fn refuse(number: u8, place: usize) -> Checked
+    ensures { λ r. ⌜ verdictOf r ≡ broken number place ⌝ }
+{
+    Checked::Refused(Refusal {
+        number,
+        place,
+        second: 0,
+    })
 }
 
 // A man, document 01's student, by number.

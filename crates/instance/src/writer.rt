@@ -1,9 +1,10 @@
 // The writer: a book from n and 2 × n × n list bytes.
 use crate::Checked;
-use crate::book::refuse;
+use crate::Instance;
+use crate::field::bytes_at;
 use crate::field::size_of;
-use crate::field::wide;
-use crate::lists::first_faulty;
+use crate::lists::check_list;
+use crate::refuse;
 ghost use mathlib.Core.Path.{_≡_};
 ghost use mathlib.Core.List.{_++_};
 ghost use Prim.Native.Nat.{_+_, _*_, _<_, _≤_};
@@ -12,8 +13,7 @@ ghost use lib.ListN.{length, drop};
 ghost use Rattle.laws.specs.Overwrite.{overwritten};
 ghost use Rattle.instance.specs.Verdict.{fine, rule, verdictOf};
 ghost use Rattle.instance.specs.Format.{largest, listsStart, size};
-ghost use Rattle.instance.specs.Lists.{firstFaultyList};
-ghost use Rattle.instance.specs.Write.{Counted, given, givenList, checkGiven, checkWrite, pairBytes, directory, bookOf, written};
+ghost use Rattle.instance.specs.Write.{Counted, checkGiven, checkWrite, pairBytes, directory, bookOf, written};
 
 // Writes the book of n and the list bytes to the front of `out`, or says which rule stands against it and where.
 // A refusal leaves `out` as it was, and a success leaves what is past the book.
@@ -22,20 +22,19 @@ pub fn write(n: usize, lists: &[u8], out: &mut [u8]) -> Checked
     ensures bytes { λ _. ⌜ now (out .exit) ≡ written (checkWrite n (now (lists .entry)) (length (now (out .entry)))) n (now (lists .entry)) (now (out .entry)) ⌝ }
 {
     let room = out.len();
-    match check_write(n, lists, room) {
-        Checked::Refused(r) => Checked::Refused(r),
-        Checked::Fine => {
-            fill(n, lists, out);
-            Checked::Fine
-        }
-    }
+    let checked = check_write(n, lists, room);
+    let Checked::Fine = checked else {
+        return checked;
+    };
+    fill(n, lists, out);
+    checked
 }
 
 // The verdict on n, the list bytes and the room for the book.
 fn check_write(n: usize, lists: &[u8], room: usize) -> Checked
     ensures { λ r. ⌜ verdictOf r ≡ checkWrite n (now (lists .entry)) room ⌝ }
 {
-    if 64 < n {
+    if Instance::LARGEST < n {
         return refuse(3, 1);
     }
     let len = lists.len();
@@ -46,10 +45,11 @@ fn check_write(n: usize, lists: &[u8], room: usize) -> Checked
     if count < len {
         return refuse(4, count);
     }
-    match check_given(n, lists) {
-        Checked::Refused(r) => Checked::Refused(r),
-        Checked::Fine => check_room(n, room),
-    }
+    let checked = check_given(n, lists);
+    let Checked::Fine = checked else {
+        return checked;
+    };
+    check_room(n, room)
 }
 
 // Rule 14: there is room for the book.
@@ -63,48 +63,21 @@ fn check_room(n: usize, room: usize) -> Checked
     Checked::Fine
 }
 
-// Rules 6 and 7: the first list that breaks one, and in it the first entry. Places count from the first list byte.
+// Rules 6 and 7: the verdict on the first list that breaks one. Places count from the first list byte.
 fn check_given(n: usize, lists: &[u8]) -> Checked
     requires { ⌜ Counted n (now lists) ⌝ }
     ensures { λ r. ⌜ verdictOf r ≡ checkGiven n (now (lists .entry)) ⌝ }
 {
-    let k = first_faulty_given(n, lists);
-    if 2 * n <= k {
-        return Checked::Fine;
-    }
-    let list = given_list(n, lists, k);
-    let j = first_faulty(list, n);
-    let at = k * n;
-    if n <= wide(list[j]) {
-        return refuse(6, at + j);
-    }
-    refuse(7, at + j)
-}
-
-// The first list with an entry that breaks rule 6 or 7, or 2 * n.
-fn first_faulty_given(n: usize, lists: &[u8]) -> usize
-    requires { ⌜ Counted n (now lists) ⌝ }
-    ensures { λ r. ⌜ r ≡ firstFaultyList n (given n (now (lists .entry))) (λ k. n) (2 * n) ⌝ }
-{
     let mut k = 0;
     while k < 2 * n {
-        let list = given_list(n, lists, k);
-        if first_faulty(list, n) < list.len() {
-            return k;
-        }
+        let at = k * n;
+        let checked = check_list(bytes_at(lists, at, n), n, at);
+        let Checked::Fine = checked else {
+            return checked;
+        };
         k += 1;
     }
-    k
-}
-
-// List k of those given.
-fn given_list(n: usize, lists: &[u8], k: usize) -> &[u8]
-    requires { ⌜ (Counted n (now lists)) × (k < 2 * n) ⌝ }
-    ensures { λ r. ⌜ now r ≡ givenList n (now (lists .entry)) k ⌝ }
-{
-    let at = k * n;
-    let end = at + n;
-    &lists[at..end]
+    Checked::Fine
 }
 
 // Writes the book, for which there is room.

@@ -3,7 +3,7 @@
 use mathlib.Core.Path.{sym, _∙_}
 use borrow.Author.Needs.{needs}
 use Rattle.instance.specs.Check.{Sized}
-use Rattle.instance.specs.Stages.{Opened, check-tiny, check-edition, check-crowd, check-short, check-long, sized, in-order, check-misfiled, check-filed}
+use Rattle.instance.specs.Laws.Stages.{Opened, check-tiny, check-edition, check-crowd, check-short, check-long, sized, in-order, check-misfiled, check-filed}
 use Rattle.instance.proofs.book.check.Statement.{statement}
 use Rattle.instance.proofs.book.check.Tie as tie
 

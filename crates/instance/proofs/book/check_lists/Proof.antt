@@ -1,89 +1,79 @@
--- `instance::book::check_lists` meets its contract: the first faulty list is refused at its first faulty entry, by 6 where that is
--- n or more and by 7 otherwise. Assumes nothing.
-use mathlib.Core.Path.{sym, _∙_}
+-- `instance::book::check_lists` meets its contract. The loop's invariant: the first k lists are fine.
+-- The measure is the number of lists left. Assumes nothing.
+use Prim.Native.Nat.{_*_, _-_}
+use mathlib.Core.Path.{ap}
 use native.Mathlib.Omega.{arith}
 use borrow.Author.Needs.{needs}
-use Rattle.instance.specs.Faults.{lists-fine}
-use Rattle.instance.specs.Directory.{listed, Fault, fault-place, fault-byte, fault-stranger, fault-repeat}
+use Rattle.instance.specs.Verdict.{verdictOf}
+use Rattle.instance.specs.Format.{entry, listLength, offset}
+use Rattle.instance.specs.Laws.ListRules.{FineLists, lists-start, lists-on, lists-stop, lists-end}
+use Rattle.instance.specs.Laws.Directory.{listed, stretch-holds}
 use Rattle.instance.proofs.book.check_lists.Statement.{statement}
 use Rattle.instance.proofs.book.check_lists.Tie as tie
 
-first-faulty-list-requires : tie.Need-first-faulty-list-requires
-first-faulty-list-requires c κs = search needs
+abbrev Inv-loop : tie.InvT-loop
+Inv-loop book n k₀ k = FineLists n (entry book) (listLength book) (offset book) (2 * n) k
 
-mul-if1 : tie.Need-mul-if1
-mul-if1 c = search needs
+abbrev μ-loop : tie.MeasureT-loop
+μ-loop book n k₀ k = 2 * n - k
 
-returns : tie.Need-returns
-returns c = sym (lists-fine _ _ _ _ _ (omega (arith, c .before .first-faulty-list .ensures)))
+loop-holds : tie.Need-loop-holds Inv-loop μ-loop
+loop-holds c = lists-start
 
-list-of-requires : tie.Need-list-of-requires
-list-of-requires c κs = listed (c .before .before .before .pre) (c .if1 .left)
+mul-loop : tie.Need-mul-loop Inv-loop μ-loop
+mul-loop c = omega arith
 
-first-faulty-requires : tie.Need-first-faulty-requires
-first-faulty-requires c κs = search needs
+offset-of-requires : tie.Need-offset-of-requires Inv-loop μ-loop
+offset-of-requires c κs = listed (c .before .before .before .pre) (c .loop-test .taken) .pair
 
--- what is known once the search of the first faulty list has stopped
-fault : (c : tie.After-first-faulty)
-    → Fault (c .before .before .before .before .before .args .book .now) (c .before .before .before .before .before .args .n)
-    (c .before .before .before .first-faulty-list .result) (c .before .list-of .result .now) (c .first-faulty .result)
-fault c =
-    record {
-      filed = c .before .before .before .before .before .pre;
-      found = c .before .before .before .first-faulty-list .ensures;
-      within = c .before .before .if1 .left;
-      list = c .before .list-of .ensures;
-      stop = c .first-faulty .ensures;
-    }
+list-of-requires : tie.Need-list-of-requires Inv-loop μ-loop
+list-of-requires c κs = listed (c .before .before .before .before .pre) (c .before .loop-test .taken)
 
-offset-of-requires : tie.Need-offset-of-requires
-offset-of-requires c κs = listed (c .before .before .before .before .before .pre) (c .before .before .if1 .left) .pair
+check-list-requires : tie.Need-check-list-requires Inv-loop μ-loop
+check-list-requires c κs = omega arith
 
-shared-slice-read-wide : tie.Need-shared-slice-read-wide
-shared-slice-read-wide c = fault-place (fault (c .before .before))
+enum-told : tie.Need-enum-told Inv-loop μ-loop
+enum-told c = search needs
 
-wide-requires : tie.Need-wide-requires
-wide-requires c κs = search needs
+enum-told-2 : tie.Need-enum-told-2 Inv-loop μ-loop
+enum-told-2 c = search needs
 
-add-refuse : tie.Need-add-refuse
-add-refuse c = omega (arith, fault-byte (fault (c .before .before .before .before)) (c .before .before .before .offset-of .ensures .0))
+returns : tie.Need-returns Inv-loop μ-loop
+returns c =
+    lists-stop (c .before .before .before .before .before .before .loop .inv) (c .before .before .before .before .before .loop-test .taken)
+    (stretch-holds (listed (c .before .before .before .before .before .before .before .before .pre) (c .before .before .before .before .before .loop-test .taken))
+    (c .before .before .before .list-of .ensures)) (c .before .before .before .before .offset-of .ensures .0) (c .before .before .check-list .ensures) (ap verdictOf (c .enum-told2 .given .1))
 
-refuse-requires : tie.Need-refuse-requires
-refuse-requires c κs = search needs
+add-k : tie.Need-add-k Inv-loop μ-loop
+add-k c = omega arith
 
-returns-2 : tie.Need-returns-2
-returns-2 c =
-    c .refuse .ensures
-    ∙ sym (fault-stranger (fault (c .before .before .before .before .before)) (c .before .before .wide .ensures .0)
-    (c .before .before .before .before .offset-of .ensures .0) (c .before .if2 .taken))
+loop-less : tie.Need-loop-less Inv-loop μ-loop
+loop-less c = omega arith
 
-add-refuse-2 : tie.Need-add-refuse-2
-add-refuse-2 c = omega (arith, fault-byte (fault (c .before .before .before .before)) (c .before .before .before .offset-of .ensures .0))
+loop-again : tie.Need-loop-again Inv-loop μ-loop
+loop-again c =
+    lists-on (c .before .before .before .before .before .before .loop .inv) (c .before .before .before .before .before .loop-test .taken)
+    (stretch-holds (listed (c .before .before .before .before .before .before .before .before .pre) (c .before .before .before .before .before .loop-test .taken))
+    (c .before .before .before .list-of .ensures)) (c .before .before .before .before .offset-of .ensures .0) (c .before .before .check-list .ensures) (ap verdictOf (c .enum-told .given .1))
 
-refuse-requires-2 : tie.Need-refuse-requires-2
-refuse-requires-2 c κs = search needs
-
-returns-3 : tie.Need-returns-3
-returns-3 c =
-    c .refuse2 .ensures
-    ∙ sym (fault-repeat (fault (c .before .before .before .before .before)) (c .before .before .wide .ensures .0)
-    (c .before .before .before .before .offset-of .ensures .0) (c .before .if2 .left))
+returns-2 : tie.Need-returns-2 Inv-loop μ-loop
+returns-2 c = lists-end (c .before .loop .inv) (c .loop-test .left)
 
 pub check-lists-spec : {M : Type 1} → statement M
 check-lists-spec =
     tie.close
     (tie.spec
-    first-faulty-list-requires
-    mul-if1
-    returns
-    list-of-requires
-    first-faulty-requires
+    Inv-loop
+    μ-loop
+    loop-holds
+    mul-loop
     offset-of-requires
-    shared-slice-read-wide
-    wide-requires
-    add-refuse
-    refuse-requires
-    returns-2
-    add-refuse-2
-    refuse-requires-2
-    returns-3)
+    list-of-requires
+    check-list-requires
+    enum-told
+    enum-told-2
+    returns
+    add-k
+    loop-less
+    loop-again
+    returns-2)

@@ -3,8 +3,8 @@
 use Prim.Native.Nat.{_*_, _-_}
 use mathlib.Core.Path.{sym}
 use native.Mathlib.Omega.{arith}
-use Rattle.instance.specs.Directory.{in-directory}
-use Rattle.instance.specs.Filing.{Filing, filing-start, filing-offset, filing-length, filing-on, filing-end}
+use Rattle.instance.specs.Laws.Directory.{in-directory}
+use Rattle.instance.specs.Laws.Filing.{Filing, filing-start, filing-offset, filing-length, filing-on, filing-end}
 use Rattle.instance.proofs.book.first_misfiled.Statement.{statement}
 use Rattle.instance.proofs.book.first_misfiled.Tie as tie
 

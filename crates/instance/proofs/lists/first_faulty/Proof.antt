@@ -5,7 +5,7 @@ use mathlib.Core.Path.{refl, sym}
 use native.Mathlib.Omega.{arith}
 use lib.ListN.{length}
 use Rattle.instance.specs.Format.{byte}
-use Rattle.instance.specs.Faults.{Sought, sought-start, sought-stranger, sought-repeat, sought-on, sought-end}
+use Rattle.instance.specs.Laws.Search.{Sought, sought-start, sought-stranger, sought-repeat, sought-on, sought-end}
 use Rattle.instance.proofs.lists.first_faulty.Statement.{statement}
 use Rattle.instance.proofs.lists.first_faulty.Tie as tie
 

@@ -1,11 +1,13 @@
 -- `instance::person::check_person` meets its contract: what the check of the book refuses, and then rule 11. Assumes nothing.
 use mathlib.Core.Path.{_≡_, sym, _∙_, ap}
 use mathlib.Core.Bool.{Bool}
+use native.Mathlib.Omega.{arith}
 use borrow.Author.Tests.{le-leb, lt-leb}
 use borrow.Author.Needs.{needs}
 use Rattle.instance.specs.Verdict.{fine, rule, verdictOf, stays, goes-on}
+use Rattle.instance.specs.Format.{people}
 use Rattle.instance.specs.Check.{checkBook}
-use Rattle.instance.specs.Stages.{fine-opened}
+use Rattle.instance.specs.Laws.Stages.{fine-passed}
 use Rattle.instance.proofs.person.check_person.Statement.{statement}
 use Rattle.instance.proofs.person.check_person.Tie as tie
 
@@ -27,16 +29,16 @@ passed : (c : tie.After-enum-told) → checkBook (c .before .before .before .bef
 passed c = sym (c .before .before .check .ensures) ∙ ap verdictOf (c .enum-told .given .1)
 
 shared-slice-read-if1 : tie.Need-shared-slice-read-if1
-shared-slice-read-if1 c = fine-opened _ (passed (c .before)) .long
+shared-slice-read-if1 c = fine-passed _ (passed (c .before)) .opened .long
 
 refuse-requires : tie.Need-refuse-requires
 refuse-requires c κs = search needs
 
 returns-2 : tie.Need-returns-2
-returns-2 c = c .refuse .ensures ∙ sym (goes-on _ _ (passed (c .before .before .before)) ∙ ap (λ (t : Bool). rule t 11 0 fine) (le-leb _ _ (c .before .if1 .taken)))
+returns-2 c = c .refuse .ensures ∙ sym (goes-on _ _ (passed (c .before .before .before)) ∙ ap (λ (t : Bool). rule t 11 0 fine) (le-leb (people (c .before .before .before .before .before .before .before .args .book .now)) (c .before .before .before .before .before .before .before .args .number) (omega arith)))
 
 returns-3 : tie.Need-returns-3
-returns-3 c = sym (goes-on _ _ (passed (c .before .before)) ∙ ap (λ (t : Bool). rule t 11 0 fine) (lt-leb _ _ (c .if1 .left)))
+returns-3 c = sym (goes-on _ _ (passed (c .before .before)) ∙ ap (λ (t : Bool). rule t 11 0 fine) (lt-leb (people (c .before .before .before .before .before .before .args .book .now)) (c .before .before .before .before .before .before .args .number) (omega arith)))
 
 pub check-person-spec : {M : Type 1} → statement M
 check-person-spec =

@@ -5,8 +5,8 @@ use native.Mathlib.Omega.{arith}
 use borrow.Author.Needs.{needs}
 use Rattle.instance.specs.Verdict.{fine, verdictOf}
 use Rattle.instance.specs.Format.{stretch}
-use Rattle.instance.specs.Stages.{fine-opened, fine-filed}
-use Rattle.instance.specs.Directory.{listed}
+use Rattle.instance.specs.Laws.Stages.{fine-passed}
+use Rattle.instance.specs.Laws.Directory.{listed}
 use Rattle.instance.specs.Person.{checkPerson, person-book, person-list, no-list, the-list}
 use Rattle.instance.proofs.person.person_list.Statement.{statement}
 use Rattle.instance.proofs.person.person_list.Tie as tie
@@ -31,7 +31,7 @@ passed : (c : tie.After-enum-told) → checkPerson (c .before .before .before .b
 passed c = sym (c .before .before .check-person .ensures) ∙ ap verdictOf (c .enum-told .given .1)
 
 shared-slice-read-wide : tie.Need-shared-slice-read-wide
-shared-slice-read-wide c = fine-opened _ (person-book _ _ (passed (c .before))) .long
+shared-slice-read-wide c = fine-passed _ (person-book _ _ (passed (c .before))) .opened .long
 
 wide-requires : tie.Need-wide-requires
 wide-requires c κs = search needs
@@ -51,7 +51,7 @@ add-list-of c = omega (
 
 list-of-requires : tie.Need-list-of-requires
 list-of-requires c κs =
-    listed (fine-filed _ (person-book _ _ (passed (c .before .before .before))))
+    listed (fine-passed _ (person-book _ _ (passed (c .before .before .before))) .filed)
     (omega (
       arith,
       person-list _ _ (passed (c .before .before .before)) (c .before .before .before .before .before .before .before .pre)

@@ -4,7 +4,7 @@ use Prim.Native.Nat.{_≤_, _-_}
 use native.Mathlib.Omega.{arith}
 use lib.ListN.{length}
 use Rattle.instance.specs.Record.{RowFilled}
-use Rattle.instance.specs.Fills.{row-start, row-small, row-on, row-end}
+use Rattle.instance.specs.Laws.Fills.{row-start, row-small, row-on, row-done}
 use Rattle.instance.proofs.record.fill_row.Statement.{statement}
 use Rattle.instance.proofs.record.fill_row.Tie as tie
 
@@ -72,7 +72,7 @@ same-length-2 : tie.Need-same-length-2 Inv-loop μ-loop
 same-length-2 c = omega arith
 
 returns : tie.Need-returns Inv-loop μ-loop
-returns c = row-end (c .before .loop .inv .1) (c .before .loop .inv .0) (c .loop-test .left)
+returns c = row-done (c .before .loop .inv .1) (c .before .loop .inv .0) (c .loop-test .left)
 
 pub fill-row-spec : {M : Type 1} → statement M
 fill-row-spec =

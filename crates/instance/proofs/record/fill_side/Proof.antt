@@ -4,7 +4,7 @@ use Prim.Native.Nat.{_≤_, _-_}
 use mathlib.Core.Path.{refl, sym, _∙_}
 use native.Mathlib.Omega.{arith}
 use Rattle.instance.specs.Record.{Rows}
-use Rattle.instance.specs.Fills.{side-listed, side-length, side-row, side-on, side-end}
+use Rattle.instance.specs.Laws.Fills.{side-listed, side-length, side-row, side-on, side-end}
 use Rattle.instance.proofs.record.fill_side.Statement.{statement}
 use Rattle.instance.proofs.record.fill_side.Tie as tie
 

@@ -1,7 +1,7 @@
 -- `instance::record::tables` meets its contract: each side is filled from tables of zeros. Assumes nothing.
 use native.Mathlib.Omega.{arith}
 use borrow.Author.Needs.{needs}
-use Rattle.instance.specs.Fills.{side-start}
+use Rattle.instance.specs.Laws.Fills.{side-start}
 use Rattle.instance.proofs.record.tables.Statement.{statement}
 use Rattle.instance.proofs.record.tables.Tie as tie
 

@@ -1,10 +1,10 @@
 -- `instance::writer::check_write` meets its contract: each return follows the tests of the chain that stand before it. Assumes nothing.
-use mathlib.Core.Path.{_≡_, sym, _∙_, ap}
+use mathlib.Core.Path.{sym, _∙_, ap}
 use native.Mathlib.Omega.{arith}
 use borrow.Author.Tests.{lt-ltb, le-ltb}
-use Rattle.instance.specs.Verdict.{fine, verdictOf}
-use Rattle.instance.specs.Write.{checkGiven, checkWrite}
-use Rattle.instance.specs.Given.{few-square}
+use Rattle.instance.specs.Verdict.{verdictOf, stays, goes-on}
+use Rattle.instance.specs.Write.{checkWrite}
+use Rattle.instance.specs.Laws.Bounds.{few-square}
 use borrow.Author.Needs.{needs}
 use Rattle.instance.proofs.writer.check_write.Statement.{statement}
 use Rattle.instance.proofs.writer.check_write.Tie as tie
@@ -40,11 +40,11 @@ returns-3 c =
 check-given-requires : tie.Need-check-given-requires
 check-given-requires c κs = search needs
 
-enum-known-r : tie.Need-enum-known-r
-enum-known-r c = search needs
-
 enum-told : tie.Need-enum-told
 enum-told c = search needs
+
+enum-told-2 : tie.Need-enum-told-2
+enum-told-2 c = search needs
 
 check-room-requires : tie.Need-check-room-requires
 check-room-requires c κs = search needs
@@ -52,16 +52,13 @@ check-room-requires c κs = search needs
 returns-4 : tie.Need-returns-4
 unfolding checkWrite
 returns-4 c =
-    rw (le-ltb _ _ (c .before .before .before .before .before .before .if1 .left), le-ltb _ _ (c .before .before .before .before .before .if2 .left), le-ltb _ _ (c .before .before .before .before .if3 .left), ← c .before .before .before .check-given .ensures, c .before .r .given .1)
-
--- the lists break no rule where their check answered so
-fine-so-far : (c : tie.After-enum-told) → checkGiven (c .before .before .before .before .before .before .before .args .n) (c .before .before .before .before .before .before .before .args .lists .now) ≡ fine
-fine-so-far c = sym (c .before .before .check-given .ensures) ∙ ap verdictOf (c .enum-told .given .1)
+    let v = c .before .before .check-given .ensures in
+    rw (le-ltb _ _ (c .before .before .before .before .before .if1 .left), le-ltb _ _ (c .before .before .before .before .if2 .left), le-ltb _ _ (c .before .before .before .if3 .left), stays _ _ (sym v ∙ ap verdictOf (c .enum-told2 .given .1))) v
 
 returns-5 : tie.Need-returns-5
 unfolding checkWrite
 returns-5 c =
-    rw (c .check-room .ensures, le-ltb _ _ (c .before .before .before .before .before .before .if1 .left), le-ltb _ _ (c .before .before .before .before .before .if2 .left), le-ltb _ _ (c .before .before .before .before .if3 .left), fine-so-far (c .before))
+    rw (c .check-room .ensures, le-ltb _ _ (c .before .before .before .before .before .before .if1 .left), le-ltb _ _ (c .before .before .before .before .before .if2 .left), le-ltb _ _ (c .before .before .before .before .if3 .left), goes-on _ _ (sym (c .before .before .before .check-given .ensures) ∙ ap verdictOf (c .before .enum-told .given .1)))
 
 pub check-write-spec : {M : Type 1} → statement M
 check-write-spec =
@@ -76,8 +73,8 @@ check-write-spec =
     refuse-requires-3
     returns-3
     check-given-requires
-    enum-known-r
     enum-told
-    check-room-requires
+    enum-told-2
     returns-4
+    check-room-requires
     returns-5)

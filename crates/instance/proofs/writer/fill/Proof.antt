@@ -3,7 +3,7 @@ use mathlib.Core.Path.{_≡_, refl, _∙_}
 use native.Mathlib.Omega.{arith}
 use lib.ListN.{length, length-set}
 use Rattle.instance.specs.Format.{size}
-use Rattle.instance.specs.Filling.{filled-book}
+use Rattle.instance.specs.Laws.Filling.{filled-book}
 use borrow.Author.Needs.{needs}
 use Rattle.instance.proofs.writer.fill.Statement.{statement}
 use Rattle.instance.proofs.writer.fill.Tie as tie

@@ -2,7 +2,8 @@
 -- The measure is the number of pairs left. Assumes nothing.
 use Prim.Native.Nat.{_*_, _-_}
 use native.Mathlib.Omega.{arith}
-use Rattle.instance.specs.Filling.{small-offset, Pairs, pairs-start, pairs-on, pairs-end}
+use Rattle.instance.specs.Laws.Bounds.{few-square, list-end}
+use Rattle.instance.specs.Laws.Filling.{Pairs, pairs-start, pairs-on, pairs-end}
 use Rattle.instance.proofs.writer.fill_directory.Statement.{statement}
 use Rattle.instance.proofs.writer.fill_directory.Tie as tie
 
@@ -31,13 +32,13 @@ add-put-pair-2 : tie.Need-add-put-pair-2 Inv-loop μ-loop
 add-put-pair-2 c = omega arith
 
 mul-put-pair-3 : tie.Need-mul-put-pair-3 Inv-loop μ-loop
-mul-put-pair-3 c = omega (arith, small-offset (c .before .before .before .before .pre .0) (c .before .loop-test .taken))
+mul-put-pair-3 c = omega (arith, few-square (c .before .before .before .before .pre .0), list-end _ (c .before .loop-test .taken))
 
 add-put-pair-3 : tie.Need-add-put-pair-3 Inv-loop μ-loop
-add-put-pair-3 c = omega (arith, small-offset (c .before .before .before .before .pre .0) (c .before .loop-test .taken))
+add-put-pair-3 c = omega (arith, few-square (c .before .before .before .before .pre .0), list-end _ (c .before .loop-test .taken))
 
 put-pair-requires : tie.Need-put-pair-requires Inv-loop μ-loop
-put-pair-requires c κs = omega (arith, small-offset (c .before .before .before .before .pre .0) (c .before .loop-test .taken))
+put-pair-requires c κs = omega (arith, few-square (c .before .before .before .before .pre .0), list-end _ (c .before .loop-test .taken))
 
 add-k : tie.Need-add-k Inv-loop μ-loop
 add-k c = omega arith

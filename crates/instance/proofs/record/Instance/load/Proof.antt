@@ -4,9 +4,9 @@ use native.Mathlib.Omega.{arith}
 use borrow.Author.Needs.{needs}
 use Rattle.instance.specs.Verdict.{fine, verdictOf}
 use Rattle.instance.specs.Check.{checkBook}
-use Rattle.instance.specs.Stages.{fine-opened}
+use Rattle.instance.specs.Laws.Stages.{fine-passed}
 use Rattle.instance.specs.WellFormed.{fine-well-formed}
-use Rattle.instance.specs.Fills.{recorded-fine, recorded-refused}
+use Rattle.instance.specs.Laws.Fills.{recorded-fine, recorded-refused}
 use Rattle.instance.proofs.record.Instance.load.Statement.{statement}
 use Rattle.instance.proofs.record.Instance.load.Tie as tie
 
@@ -30,7 +30,7 @@ passed : (c : tie.After-enum-told) → checkBook (c .before .before .before .bef
 passed c = sym (c .before .before .check .ensures) ∙ ap verdictOf (c .enum-told .given .1)
 
 shared-slice-read-wide : tie.Need-shared-slice-read-wide
-shared-slice-read-wide c = fine-opened _ (passed (c .before)) .long
+shared-slice-read-wide c = fine-passed _ (passed (c .before)) .opened .long
 
 wide-requires : tie.Need-wide-requires
 wide-requires c κs = search needs
@@ -40,7 +40,7 @@ tables-requires-2 c κs =
     record {
       formed = λ h. fine-well-formed _ .0 (passed (c .before .before));
       number = λ h. c .wide .ensures .0;
-      few = omega (arith, fine-opened _ (passed (c .before .before)) .few);
+      few = omega (arith, fine-passed _ (passed (c .before .before)) .opened .few);
     }
 
 returns-2 : tie.Need-returns-2

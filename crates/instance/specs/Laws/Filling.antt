@@ -3,20 +3,13 @@ use Prim.Native.Nat.{ℕ, _+_, _*_, _≤_, _<_}
 use mathlib.Core.Path.{_≡_, refl, sym, _∙_, ap, ap₂}
 use mathlib.Core.List.{List, [], _∷_, _++_}
 use native.Mathlib.Omega.{arith}
-use native.Mathlib.Nat.{mul-assoc}
 use native.Mathlib.Numerals.{add-one}
 use lib.ListN.{length, set, drop, length-append}
 use lib.Seq.{sets-eq}
-use Rattle.laws.specs.Table.{row-end}
 use Rattle.laws.specs.Overwrite.{overwritten, overwritten-none, overwritten-on, length-overwritten}
-use Rattle.instance.specs.Format.{largest, listsStart, size}
+use Rattle.instance.specs.Format.{listsStart, size}
 use Rattle.instance.specs.Write.{Counted, pairBytes, directory, bookOf}
-use Rattle.instance.specs.Given.{few-square}
-use Rattle.instance.specs.Written.{length-directory}
-
--- the offset of list k fits two bytes
-pub small-offset : {n k : ℕ} → n ≤ largest → k < 2 * n → k * n ≤ 8192
-small-offset {n} h u = omega (arith, row-end n u, mul-assoc 2 n n, few-square h)
+use Rattle.instance.specs.Laws.Written.{length-directory}
 
 -- What the loop that writes the directory knows after k pairs: they stand from byte 2 on
 pub record Pairs (n : ℕ) (l : List ℕ) (k : ℕ) (out : List ℕ) : Type 0 where

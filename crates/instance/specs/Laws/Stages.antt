@@ -1,16 +1,15 @@
 -- The verdict on a book, rule by rule: what it is where the rules before are passed, and what is known where nothing is refused.
 -- Assumes nothing.
 use Prim.Native.Nat.{ℕ, _+_, _*_, _≤_, _<_}
-use mathlib.Core.Path.{_≡_, refl, sym, _∙_}
+use mathlib.Core.Path.{_≡_, refl}
 use mathlib.Core.Bool.{not}
 use mathlib.Core.List.{List}
 use native.Mathlib.Omega.{arith}
-use lib.Dec.{ltb}
+use lib.Dec.{ltb, eqb}
 use lib.ListN.{length}
-use borrow.Author.Tests.{lt-ltb, le-ltb, eq-eqb, ne-eqb}
-use Rattle.laws.specs.Choice.{split, same}
+use borrow.Author.Tests.{lt-ltb, le-ltb, eq-eqb, ne-eqb, ltb-false, eqb-true, not-false}
 use Rattle.laws.specs.First.{first-le}
-use Rattle.instance.specs.Verdict.{fine, refused, refuses, rule, broken}
+use Rattle.instance.specs.Verdict.{fine, rule, broken, rule-fine}
 use Rattle.instance.specs.Format.{largest, byte, people, offset, listLength, entry, size}
 use Rattle.instance.specs.Lists.{checkLists}
 use Rattle.instance.specs.Check.{filed, firstMisfiled, checkBook, Sized, Filed}
@@ -71,33 +70,26 @@ module _ {b : List ℕ} {n : ℕ} (O : Opened b n) where
     check-filed h = rw (directory, le-ltb _ _ h)
 
 -- What is known of a book in which nothing is refused
-module _ (b : List ℕ) (e : checkBook b ≡ fine) where
-  pub fine-opened : Opened b (people b)
-  fine-opened =
-      record {
-        long = long;
-        edition = edition;
-        number = refl;
-        few = split (people b) largest (λ h. h) (λ h. absurd (refuses (check-crowd b long edition refl h) e));
-      }
-    where
-      long : 2 ≤ length b
-      long = split 2 (length b) (λ h. h) (λ h. absurd (refuses (check-tiny b h) e))
+pub record Passed (b : List ℕ) : Type 0 where
+  pub opened : Opened b (people b)
+  pub filed : Filed b (people b)
+  pub lists : checkLists (people b) (entry b) (listLength b) (offset b) (2 * people b) ≡ fine
 
-      edition : byte b 0 ≡ 1
-      edition = same (byte b 0) 1 (λ h. h) (λ h. absurd (refuses (check-edition b long h) e))
-
-  pub fine-sized : Sized b (people b)
-  fine-sized =
-      sized fine-opened refl
-      (split (size (people b)) (length b) (λ h. h) (λ h. absurd (refuses (check-short fine-opened refl h) e)))
-      (split (length b) (size (people b)) (λ h. h) (λ h. absurd (refuses (check-long fine-opened refl h) e)))
-
-  past : 2 * people b ≤ firstMisfiled b
-  past = split (2 * people b) (firstMisfiled b) (λ h. h) (λ h. absurd (refuses (check-misfiled fine-opened fine-sized refl h) e))
-
-  pub fine-filed : Filed b (people b)
-  fine-filed = in-order fine-opened fine-sized refl past
-
-  pub fine-lists : checkLists (people b) (entry b) (listLength b) (offset b) (2 * people b) ≡ fine
-  fine-lists = sym (check-filed fine-opened fine-sized refl past) ∙ e
+pub fine-passed : (b : List ℕ) → checkBook b ≡ fine → Passed b
+unfolding checkBook
+fine-passed b e =
+    let tiny = rule-fine (ltb (length b) 2) 1 (length b) _ e in
+    let edition = rule-fine (not (eqb (byte b 0) 1)) 2 0 _ (tiny .1) in
+    let crowd = rule-fine (ltb largest (people b)) 3 1 _ (edition .1) in
+    let short = rule-fine (ltb (length b) (size (people b))) 1 (length b) _ (crowd .1) in
+    let overlong = rule-fine (ltb (size (people b)) (length b)) 4 (size (people b)) _ (short .1) in
+    let directory = rule-fine (ltb (firstMisfiled b) (2 * people b)) 5 (2 + 4 * firstMisfiled b) _ (overlong .1) in
+    let O : Opened b (people b) =
+    record {
+      long = ltb-false _ _ (tiny .0);
+      edition = eqb-true _ _ (not-false _ (edition .0));
+      number = refl;
+      few = ltb-false _ _ (crowd .0);
+    } in
+    let S = sized O refl (ltb-false _ _ (short .0)) (ltb-false _ _ (overlong .0)) in
+    record { opened = O; filed = in-order O S refl (ltb-false _ _ (directory .0)); lists = directory .1 }

@@ -3,21 +3,21 @@ use Prim.Native.Nat.{ℕ, _+_, _*_, _≤_, _<_}
 use mathlib.Core.Path.{_≡_, refl, sym, _∙_, ap, subst}
 use mathlib.Core.List.{List}
 use native.Mathlib.Omega.{arith}
-use native.Mathlib.Nat.{mul-le-mul, mul-le-mul-right, suc-mul}
 use lib.ListN.{length, getD, set, replicate, length-set, length-replicate}
 use lib.Seq.{getD-set-same, getD-set-other}
 use Rattle.laws.specs.Choice.{split}
 use Rattle.laws.specs.Onto.{Into, into-cong}
-use Rattle.laws.specs.Table.{cell, zeros-read, filled-start, filled-on}
+use Rattle.laws.specs.Table.{cell, zeros-read, filled-start, filled-on, row-end}
 use Rattle.laws.specs.Stores.{stores-start, stores-on}
 use Rattle.instance.specs.Format.{largest, byte, people, listLength, entry, stretch}
 use Rattle.instance.specs.declared.record.Loaded.{Loaded}
 use Rattle.instance.specs.Verdict.{Verdict, fine, refused, verdictOf}
-use Rattle.instance.specs.Check.{checkBook}
-use Rattle.instance.specs.Stages.{fine-filed}
-use Rattle.instance.specs.Directory.{Listed, listed, stretch-length, stretch-entry}
-use Rattle.instance.specs.WellFormed.{WellFormed, fine-well-formed}
-use Rattle.instance.specs.Place.{place, place-lt, entry-at-place}
+use Rattle.instance.specs.Check.{checkBook, Listed}
+use Rattle.instance.specs.Laws.Bounds.{few-square}
+use Rattle.instance.specs.Laws.Holds.{Holds}
+use Rattle.instance.specs.Laws.Directory.{stretch-holds}
+use Rattle.instance.specs.Laws.Sides.{FullList, side-list}
+use Rattle.instance.specs.Place.{place}
 use Rattle.instance.specs.Record.{Rows, SideTables, Row, RowFilled, Blank, Tables, Recorded, numberIf}
 
 module _ {l lists₀ ranks₀ : List ℕ} {at : ℕ} where
@@ -26,9 +26,9 @@ module _ {l lists₀ ranks₀ : List ℕ} {at : ℕ} where
   row-start = record { listed = stores-start _ _ _ _; ranked = stores-start _ _ _ _ }
 
   -- and after its last
-  pub row-end : {m : ℕ} {lists ranks : List ℕ} → RowFilled l at m lists₀ ranks₀ lists ranks → m ≤ length l → length l ≤ m
+  pub row-done : {m : ℕ} {lists ranks : List ℕ} → RowFilled l at m lists₀ ranks₀ lists ranks → m ≤ length l → length l ≤ m
       → RowFilled l at (length l) lists₀ ranks₀ lists ranks
-  row-end {m} {lists} {ranks} S h k =
+  row-done {m} {lists} {ranks} S h k =
       let e : m ≡ length l = omega arith in
       subst (λ (j : ℕ). RowFilled l at j lists₀ ranks₀ lists ranks) e S
 
@@ -46,44 +46,33 @@ module _ {l lists₀ ranks₀ : List ℕ} {at : ℕ} where
         }
 
 module _ {b lengths₀ lists₀ ranks₀ : List ℕ} {n from : ℕ} (K : Blank b n from lengths₀ lists₀ ranks₀) {i : ℕ} (h : i < n) where
-  formed : WellFormed b
-  formed = K .source .formed (omega arith)
-
-  number : n ≡ people b
-  number = K .source .number (omega arith)
-
-  lies : from + i < 2 * people b
-  lies = omega (arith, K .side, number)
+  full : FullList b n (from + i)
+  full = side-list (K .source) (K .side) h
 
   -- the list of the next person lies within the book, and has n entries
   pub side-listed : Listed b (from + i)
-  side-listed = listed (fine-filed b (fine-well-formed b .1 formed)) lies
+  side-listed = full .lies
 
   module _ {l : List ℕ} (e : l ≡ stretch b (from + i)) where
-    pub side-length : length l ≡ n
-    side-length = ap length e ∙ stretch-length side-listed ∙ formed .lengths lies ∙ sym number
+    holds : Holds (entry b (from + i)) n l
+    holds = subst (λ (m : ℕ). Holds (entry b (from + i)) m l) (full .long) (stretch-holds side-listed e)
 
-    side-entry : (j : ℕ) → j < n → byte l j ≡ entry b (from + i) j
-    side-entry j u = ap (λ (m : List ℕ). byte m j) e ∙ stretch-entry b (from + i) (omega (arith, formed .lengths lies, number))
+    pub side-length : length l ≡ n
+    side-length = holds .long
 
     module _ {lengths lists ranks : List ℕ} (R : Rows b n from i lengths lists ranks) where
       within : i * n + length l ≤ largest * largest
-      within =
-          let q = K .source .few in
-          omega (arith, side-length, suc-mul i n, mul-le-mul-right n h, mul-le-mul q q)
+      within = omega (arith, side-length, row-end n h, few-square (K .source .few))
 
       -- they fit the next row
       pub side-row : Row l (i * n) lists ranks
       side-row =
           record {
-            names = subst (λ (m : ℕ). Into m m (byte l)) (sym side-length) (into-cong names side-entry);
+            names = subst (λ (m : ℕ). Into m m (byte l)) (sym side-length) (into-cong (full .names) (holds .entries));
             few = omega (arith, side-length, K .source .few);
             lists-room = omega (arith, within, R .lists-long);
             ranks-room = omega (arith, within, R .ranks-long);
           }
-        where
-          names : Into n n (entry b (from + i))
-          names = subst (λ (m : ℕ). Into m m (entry b (from + i))) (sym number) (formed .names lies)
 
       -- which is then done
       module _ {lists′ ranks′ : List ℕ} {v : ℕ} (S : RowFilled l (i * n) (length l) lists ranks lists′ ranks′) (q : v ≡ length l) where
@@ -94,19 +83,13 @@ module _ {b lengths₀ lists₀ ranks₀ : List ℕ} {n from : ℕ} (K : Blank b
             let r : k ≡ i = omega arith in
             ap (λ (j : ℕ). getD (set lengths i v) j 0) r
             ∙ getD-set-same lengths i v 0 (omega (arith, R .lengths-long, K .source .few))
-            ∙ q ∙ ap length e ∙ stretch-length side-listed ∙ ap (λ (j : ℕ). listLength b (from + j)) (sym r))
+            ∙ q ∙ side-length ∙ sym (full .long) ∙ ap (λ (j : ℕ). listLength b (from + j)) (sym r))
             (λ m. getD-set-other lengths i k v 0 (λ r. omega arith) ∙ R .length-at m)
 
         rank-on : (w : ℕ) → w < n → cell ranks′ n i w ≡ place b (from + i) w
         rank-on w u =
-            ap (λ (j : ℕ). cell ranks′ n i j) (sym (side-entry p (omega (arith, lt, number)) ∙ entry-at-place formed lies (omega (arith, number))))
-            ∙ S .ranked .stored (omega (arith, lt, side-length, number))
-          where
-            p : ℕ
-            p = place b (from + i) w
-
-            lt : place b (from + i) w < people b
-            lt = place-lt formed lies (omega (arith, number))
+            ap (λ (j : ℕ). cell ranks′ n i j) (sym (holds .entries (place b (from + i) w) (full .place-small u) ∙ full .at-place u))
+            ∙ S .ranked .stored (omega (arith, full .place-small u, side-length))
 
         pub side-on : Rows b n from (i + 1) (set lengths i v) lists′ ranks′
         side-on =
@@ -115,7 +98,7 @@ module _ {b lengths₀ lists₀ ranks₀ : List ℕ} {n from : ℕ} (K : Blank b
               length-past = λ {p} u. getD-set-other lengths i p v 0 (λ r. omega arith) ∙ R .length-past (omega arith);
               lists-done =
                   filled-on (R .lists-done)
-                  (λ j u. S .listed .stored (omega (arith, side-length)) ∙ side-entry j u)
+                  (λ j u. S .listed .stored (omega (arith, side-length)) ∙ holds .entries j u)
                   (λ p out. S .listed .kept p (λ j u. out j (omega (arith, side-length))));
               ranks-done =
                   filled-on (R .ranks-done) rank-on
