@@ -5,14 +5,15 @@
     tests/make_matching_cases.py --check    says whether they are what it would write
 
 The books are built from ranked lists by document 01, section 'The book'. The expected lines are literals: the matchings of
-document 01, section 'Checked by hand', those of small books worked out by hand, and the refusals of its table. No code of the library is used.
+document 01, section 'Checked by hand', those of small books and the blocking pairs worked out by hand, and the refusals of its table.
+No code of the library is used.
 """
 import pathlib
 import sys
 
 HERE = pathlib.Path(__file__).resolve().parent.parent / "crates" / "matching_cases"
 
-STUDENT_BEST, MENTOR_BEST = 0, 1
+STUDENT_BEST, MENTOR_BEST, CHECK = 0, 1, 2
 
 
 def book(text):
@@ -46,8 +47,13 @@ TABLE_1 = book("""
 2164530 0435261 2504316 6123405 4605312 3126540 4621305
 """)
 
+# Student 2 and mentor 1 rank each other first
+THREE = book("012 120 120 012 210 120")
+# Mentors 1 and 2 both rank student 0 first, and he ranks 2 above 1 above 0
+CHOICE = book("210 012 012 012 012 021")
+
 # (what is tried, call, bytes of the book, room, expected line)
-CASES = [
+EXTREMES = [
     # Table 1's extremes, document 01
     ("Table 1, student-best", STUDENT_BEST, TABLE_1, 7, "0 0 0 5 4 6 3 1 0 2"),
     ("Table 1, mentor-best", MENTOR_BEST, TABLE_1, 7, "0 0 0 1 3 0 5 4 2 6"),
@@ -84,9 +90,53 @@ CASES = [
 ]
 
 
+# (what is tried, bytes of the book, matching, expected line)
+CHECKS = [
+    # Stable
+    ("n = 0, empty matching", NOBODY, "", "0 0 0"),
+    ("n = 1", ONE, "0", "0 0 0"),
+    ("two by two, each student has his first mentor", TWO, "01", "0 0 0"),
+    ("two by two, each mentor has her first student", TWO, "10", "0 0 0"),
+    ("two alike", SAME, "01", "0 0 0"),
+    ("Table 1, the sheet's matching", TABLE_1, "4563120", "0 0 0"),
+    ("Table 1, student-best", TABLE_1, "5463102", "0 0 0"),
+    ("Table 1, mentor-best", TABLE_1, "1305426", "0 0 0"),
+    # 8 length
+    ("n = 0, one byte", NOBODY, "0", "8 0 0"),
+    ("n = 1, none", ONE, "", "8 0 0"),
+    ("Table 1, six bytes", TABLE_1, "456312", "8 0 0"),
+    ("Table 1, eight bytes", TABLE_1, "45631207", "8 0 0"),
+    # 9 clash
+    ("n = 1, mentor 1", ONE, "1", "9 0 0"),
+    ("mentor 2 of two", TWO, "20", "9 0 0"),
+    ("mentor 2 of two, second", TWO, "02", "9 1 0"),
+    ("mentor 0 twice", TWO, "00", "9 1 0"),
+    ("Table 1, the last byte repeats the first", TABLE_1, "4563124", "9 6 0"),
+    ("Table 1, two clashes", TABLE_1, "4463127", "9 1 0"),
+    # 10 unstable: the lowest blocking student, his best-ranked blocking mentor
+    ("two alike, exchanged", SAME, "10", "10 0 0"),
+    ("student 2 and mentor 1 alone block", THREE, "012", "10 2 1"),
+    ("student 0 blocks with mentors 1 and 2", CHOICE, "012", "10 0 2"),
+    ("Table 1, student-best with students 0 and 1 exchanged", TABLE_1, "4563102", "10 0 2"),
+    ("Table 1, mentor-best with students 3 and 4 exchanged", TABLE_1, "1304526", "10 0 4"),
+    # The order of the rules
+    ("8 before 9", TWO, "5", "8 0 0"),
+    ("9 before 10", SAME, "11", "9 1 0"),
+    ("1 before 8", TWO[:25], "0", "1 25 0"),
+    ("7 before 9", put(TWO, {19: 0}), "00", "7 19 0"),
+    ("6 before 10", put(SAME, {18: 2}), "10", "6 18 0"),
+]
+
+
+def case(call, count, b, after=()):
+    return bytes([call, count, len(b) % 256, len(b) // 256, *b, *after])
+
+
 def main():
-    stdin = b"".join(bytes([call, room, len(b) % 256, len(b) // 256] + b) for _, call, b, room, _ in CASES)
-    stdout = "".join(line + "\n" for _, _, _, _, line in CASES).encode()
+    stdin = b"".join(case(call, room, b) for _, call, b, room, _ in EXTREMES)
+    stdin += b"".join(case(CHECK, len(m), b, map(int, m)) for _, b, m, _ in CHECKS)
+    lines = [c[-1] for c in EXTREMES + CHECKS]
+    stdout = "".join(line + "\n" for line in lines).encode()
     if len(stdin) > 65536:
         sys.exit(f"{len(stdin)} bytes of input: the program takes 65536")
     files = {HERE / "stdin": stdin, HERE / "stdout": stdout}
@@ -95,7 +145,7 @@ def main():
         sys.exit(f"not as written by this script: {', '.join(bad)}" if bad else 0)
     for path, text in files.items():
         path.write_bytes(text)
-    print(f"{len(CASES)} cases, {len(stdin)} bytes of input")
+    print(f"{len(lines)} cases, {len(stdin)} bytes of input")
 
 
 if __name__ == "__main__":

@@ -21,7 +21,7 @@ ghost use Rattle.matching.specs.ExtremeBytes.{Writable};
 ghost use Rattle.matching.specs.ExtremePlaces.{extremeOf, BestSides, PlacesOf};
 
 // The side that proposes, and so is best off.
-pub enum Proposers {
+enum Proposers {
     Men,
     Women,
 }

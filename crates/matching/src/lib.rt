@@ -8,7 +8,6 @@ use instance::Instance;
 mod extreme;
 mod stability;
 
-pub use extreme::Proposers;
 pub use extreme::man_optimal;
 pub use extreme::man_optimal_places;
 pub use extreme::woman_optimal;

@@ -1,11 +1,12 @@
-// Runs the calls of crate `matching` on cases that stand one after the other on standard input. A case is the call, 0 for the student-best and
-// 1 for the mentor-best matching, the room of the result buffer, the length of the book in two bytes, low byte first, and the book.
-// Prints a line for each: the number of the broken rule and its two places, or `0 0 0`, and then the bytes of the result buffer, each 255
-// before the call. It takes 65,536 bytes of input.
+// Runs the calls of crate `matching` on cases that stand one after the other on standard input. A case is the call, a count, the length of the
+// book in two bytes, low byte first, and the book. Call 0 is the student-best and call 1 the mentor-best matching, with a result buffer of
+// `count` bytes, each 255 before the call. Call 2 is the check of a matching, whose `count` bytes follow the book.
+// Prints a line for each: the number of the broken rule and its two places, or `0 0 0`, and then the bytes of the result buffer.
+// It takes 65,536 bytes of input.
 use instance::Checked;
 use libc::STDIN_FILENO;
 use libc::STDOUT_FILENO;
-ghost use Prim.Native.Nat.{_<_};
+ghost use Prim.Native.Nat.{_<_, _≤_};
 
 fn main() {
     let mut input = io::large_buffer();
@@ -18,27 +19,41 @@ fn run_all(input: &[u8]) {
     let mut at = 0;
     while 4 <= input.len() - at {
         let call = input[at];
-        let room = wide(input[at + 1]);
+        let count = wide(input[at + 1]);
         let len = wide(input[at + 2]) + 256 * wide(input[at + 3]);
         let start = at + 4;
-        if input.len() - start < len {
+        let after = given(call, count);
+        if input.len() - start < len + after {
             return;
         }
         let end = start + len;
-        run(call, room, &input[start..end]);
-        at = end;
+        let next = end + after;
+        run(call, count, &input[start..end], &input[end..next]);
+        at = next;
     }
 }
 
-// Runs a call with a buffer of so much room.
-fn run(call: u8, room: usize, book: &[u8])
-    requires { ⌜ room < 256 ⌝ }
+// How many bytes follow the book.
+fn given(call: u8, count: usize) -> usize
+    ensures { λ r. ⌜ r ≤ count ⌝ }
 {
-    let mut out = [255u8; 256];
-    run_in(call, book, &mut out[..room]);
+    if call == 2 { count } else { 0 }
 }
 
 // Runs a call and prints its line.
+fn run(call: u8, count: usize, book: &[u8], matching: &[u8])
+    requires { ⌜ count < 256 ⌝ }
+{
+    if call == 2 {
+        print_answer(matching::check(book, matching));
+        end_line();
+        return;
+    }
+    let mut out = [255u8; 256];
+    run_in(call, book, &mut out[..count]);
+}
+
+// Works out an extreme matching and prints its line.
 fn run_in(call: u8, book: &[u8], out: &mut [u8]) {
     print_answer(extreme(call, book, out));
     print_bytes(out);

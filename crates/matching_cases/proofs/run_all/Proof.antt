@@ -57,14 +57,23 @@ add-len c = omega arith
 add-start : tie.Need-add-start Inv-loop μ-loop
 add-start c = omega arith
 
+given-requires : tie.Need-given-requires Inv-loop μ-loop
+given-requires c κs = tt
+
 sub-if1 : tie.Need-sub-if1 Inv-loop μ-loop
 sub-if1 c = omega arith
+
+add-if1 : tie.Need-add-if1 Inv-loop μ-loop
+add-if1 c = omega arith
 
 returns : tie.Need-returns Inv-loop μ-loop
 returns c = tt
 
 add-end : tie.Need-add-end Inv-loop μ-loop
 add-end c = omega arith
+
+add-next : tie.Need-add-next Inv-loop μ-loop
+add-next c = omega arith
 
 sub-run : tie.Need-sub-run Inv-loop μ-loop
 sub-run c = omega arith
@@ -74,6 +83,15 @@ part-run-start c = omega arith
 
 part-run-end : tie.Need-part-run-end Inv-loop μ-loop
 part-run-end c = omega arith
+
+sub-run-2 : tie.Need-sub-run-2 Inv-loop μ-loop
+sub-run-2 c = omega arith
+
+part-run-start-2 : tie.Need-part-run-start-2 Inv-loop μ-loop
+part-run-start-2 c = omega arith
+
+part-run-end-2 : tie.Need-part-run-end-2 Inv-loop μ-loop
+part-run-end-2 c = omega arith
 
 run-requires : tie.Need-run-requires Inv-loop μ-loop
 run-requires c κs = omega arith
@@ -108,12 +126,18 @@ run-all-spec =
     mul-len
     add-len
     add-start
+    given-requires
     sub-if1
+    add-if1
     returns
     add-end
+    add-next
     sub-run
     part-run-start
     part-run-end
+    sub-run-2
+    part-run-start-2
+    part-run-end-2
     run-requires
     loop-less
     loop-again

@@ -3,20 +3,21 @@
 use Prim.Native.Nat.{ℕ, _-_, _≤_, _<_}
 use mathlib.Core.Path.{_≡_, refl, sym, _∙_, ap}
 use native.Mathlib.Omega.{arith}
-use Rattle.laws.specs.Front.{Fronted, fronted-start, fronted-on, fronted-end}
+use Rattle.laws.specs.FrontStores.{stores-front, stores-values}
+use Rattle.laws.specs.Stores.{Stores, stores-start}
 use Rattle.laws.specs.Table.{cell, cell-lt}
 use Rattle.laws.specs.Values.{vec}
 use Rattle.matching.proofs.extreme.write_matching.Statement.{statement}
 use Rattle.matching.proofs.extreme.write_matching.Tie as tie
 
 abbrev Inv-loop : tie.InvT-loop
-Inv-loop n lists places out₀ i₀ out i = (i ≤ n) × Fronted (λ (j : ℕ). cell lists n j (vec places j)) out₀ i out
+Inv-loop n lists places out₀ i₀ out i = (i ≤ n) × Stores 0 i (λ j. j) (λ j. cell lists n j (vec places j)) out₀ out
 
 abbrev μ-loop : tie.MeasureT-loop
 μ-loop n lists places out₀ i₀ out i = n - i
 
 loop-holds : tie.Need-loop-holds Inv-loop μ-loop
-loop-holds c = (omega arith, fronted-start _ _)
+loop-holds c = (omega arith, stores-start _ _ _ _)
 
 mul-wide : tie.Need-mul-wide Inv-loop μ-loop
 mul-wide c = omega arith
@@ -53,14 +54,14 @@ loop-less c = omega arith
 
 loop-again : tie.Need-loop-again Inv-loop μ-loop
 loop-again c =
-    (omega arith, fronted-on (c .before .before .before .before .loop .inv .1) (omega arith) (woman c))
+    (omega arith, stores-front (c .before .before .before .before .loop .inv .1) refl (woman c) (omega arith) (λ j u e. omega arith))
 
 same-length : tie.Need-same-length Inv-loop μ-loop
 same-length c = c .before .loop .inv .1 .long
 
 returns : tie.Need-returns Inv-loop μ-loop
 returns c =
-    fronted-end (c .before .loop .inv .1) (omega arith) (c .before .before .before .before .before .pre .room)
+    stores-values (c .before .loop .inv .1) (omega arith) (c .before .before .before .before .before .pre .room)
 
 pub write-matching-spec : {M : Type 1} → statement M
 write-matching-spec =
