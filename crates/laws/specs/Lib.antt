@@ -8,11 +8,14 @@ pub mod Marks
 pub mod Pigeon
 pub mod Onto
 pub mod Cycle
+pub mod Covered
+pub mod Round
 pub mod Sum
 pub mod SumLaws
 pub mod Rising
 pub mod Largest
 pub mod Values
+pub mod Walk
 pub mod Table
 pub mod Front
 pub mod Padded
