@@ -1,6 +1,8 @@
 -- The largest value of a function at the numbers below a bound. Assumes nothing.
-use Prim.Native.Nat.{ℕ, zero, suc, max, _≤_, _<_}
+use Prim.Native.Nat.{ℕ, zero, suc, max, _+_, _≤_, _<_}
+use mathlib.Core.Path.{_≡_, ap}
 use native.Mathlib.Omega.{arith}
+use native.Mathlib.Numerals.{add-one}
 use Rattle.laws.specs.Choice.{same}
 
 -- the largest of f 0, …, f (n - 1), or 0 where n is 0
@@ -17,3 +19,7 @@ largest-ge (suc n) f i u = same i n (λ e. rw e (omega arith)) (λ ne. omega (ar
 pub largest-le : (n : ℕ) (f : ℕ → ℕ) (g : ℕ) → ((i : ℕ) → i < n → f i ≤ g) → largest n f ≤ g
 largest-le zero f g h = omega arith
 largest-le (suc n) f g h = omega (arith, largest-le n f g (λ i u. h i (omega arith)), h n (omega arith))
+
+-- the step of a loop that finds it
+pub largest-more : (f : ℕ → ℕ) {i k x : ℕ} → k ≡ largest i f → x ≡ f i → max k x ≡ largest (i + 1) f
+largest-more f {i} e q = omega (arith, ap (λ (n : ℕ). largest n f) (add-one i))

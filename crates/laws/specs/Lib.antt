@@ -10,9 +10,12 @@ pub mod Onto
 pub mod Cycle
 pub mod Sum
 pub mod SumLaws
+pub mod Counting
 pub mod Rising
 pub mod Largest
+pub mod Difference
 pub mod Values
+pub mod Refill
 pub mod Table
 pub mod Front
 pub mod Padded

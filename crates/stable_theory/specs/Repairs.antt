@@ -5,5 +5,6 @@ pub mod Moves
 pub mod Between
 pub mod Answer
 pub mod AnswerLaws
+pub mod AnswerAlike
 pub mod RobustLaws
 pub mod Demand3Theory

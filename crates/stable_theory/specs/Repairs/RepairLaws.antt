@@ -52,7 +52,7 @@ module _ {I : Market} (M : Proper I) {p : ℕ → ℕ} {s w : ℕ} (P : Stable I
   down-exists K le = least-stable M start-within (K .stable) (start-before K le)
 
 -- Across to the other side: p, u and k have the mirrors t, e and y, and s holds w under p
-parts-across : {I : Market} → Proper I → {p t k y : ℕ → ℕ} {s w : ℕ} → Mirror I p t → Mirror I k y → Holds I p s w → Parts I p s k → Parts (exchange I) t w y
+pub parts-across : {I : Market} → Proper I → {p t k y : ℕ → ℕ} {s w : ℕ} → Mirror I p t → Mirror I k y → Holds I p s w → Parts I p s k → Parts (exchange I) t w y
 parts-across M {t = t} {y = y} X Y h K =
     record {
       stable = stable-across M Y (K .stable);
@@ -60,7 +60,7 @@ parts-across M {t = t} {y = y} X Y h K =
     }
 
 -- the other side's repair down is the repair up
-down-across : {I : Market} → Proper I → {p t u e : ℕ → ℕ} {s w : ℕ} → Stable I p → Mirror I p t → Mirror I u e → Holds I p s w → IsDown (exchange I) t w e → IsUp I p s u
+pub down-across : {I : Market} → Proper I → {p t u e : ℕ → ℕ} {s w : ℕ} → Stable I p → Mirror I p t → Mirror I u e → Holds I p s w → IsDown (exchange I) t w e → IsUp I p s u
 down-across M P X Y h D =
     let N = exchanged M in
     record {

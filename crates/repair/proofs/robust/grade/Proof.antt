@@ -1,0 +1,56 @@
+-- `repair::robust::grade` meets its contract: what the check of the matching refuses, and else the largest cost over the record. Assumes nothing.
+use mathlib.Core.Path.{_≡_, sym, _∙_, ap}
+use denote.Ref.{now}
+use borrow.Author.Needs.{needs}
+use Rattle.instance.specs.Verdict.{Verdict, fine, verdictOf}
+use Rattle.matching.specs.Matching.{checkMatching}
+use Rattle.repair.specs.Grade.{grade, gradeOf, replyIf}
+use Rattle.repair.specs.Laws.Book.{judged-given, grade-book}
+use Rattle.repair.proofs.robust.grade.Statement.{statement}
+use Rattle.repair.proofs.robust.grade.Tie as tie
+
+judge-requires : tie.Need-judge-requires
+judge-requires c κs = search needs
+
+enum-told : tie.Need-enum-told
+enum-told c = search needs
+
+enum-told-2 : tie.Need-enum-told-2
+enum-told-2 c = search needs
+
+ungraded-requires : tie.Need-ungraded-requires
+ungraded-requires c κs = search needs
+
+returns : tie.Need-returns
+returns c =
+    let s = c .before .before .before .before .before .before in
+    let e = ap verdictOf (c .before .enum-told2 .given .1) in
+    c .ungraded .ensures
+    ∙ ap (λ (v : Verdict). replyIf v (grade 0)) e
+    ∙ sym (ap (λ (v : Verdict). replyIf v (grade (gradeOf (now (s .args .book)) (now (s .args .matching))))) (sym (c .before .before .before .judge .ensures .checked) ∙ e))
+
+-- the matching is stable where the check answered so
+passed : (c : tie.After-enum-told) → checkMatching (now (c .before .before .before .before .before .args .book)) (now (c .before .before .before .before .before .args .matching)) ≡ fine
+passed c = sym (c .before .before .judge .ensures .checked) ∙ ap verdictOf (c .enum-told .given .1)
+
+robustness-requires : tie.Need-robustness-requires
+robustness-requires c κs = judged-given (c .before .before .before .before .before .before .before .before .before .before .before .before .before .before .before .before .before .judge .ensures) (passed (c .before .before .before .before .before .before .before .before .before .before .before .before .before .before .before))
+
+returns-2 : tie.Need-returns-2
+returns-2 c =
+    let s = c .before .before .before .before .before .before .before .before .before .before .before .before .before .before .before .before .before .before .before .before .before in
+    let f = passed (c .before .before .before .before .before .before .before .before .before .before .before .before .before .before .before .before) in
+    ap grade (c .robustness .ensures ∙ grade-book (c .before .before .before .before .before .before .before .before .before .before .before .before .before .before .before .before .before .before .judge .ensures) f)
+    ∙ sym (ap (λ (v : Verdict). replyIf v (grade (gradeOf (now (s .args .book)) (now (s .args .matching))))) f)
+
+pub grade-spec : {M : Type 1} → statement M
+grade-spec =
+    tie.close
+    (tie.spec
+    judge-requires
+    enum-told
+    enum-told-2
+    ungraded-requires
+    returns
+    robustness-requires
+    returns-2)

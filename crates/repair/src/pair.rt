@@ -1,0 +1,154 @@
+// Repair of a pair: the request's rules, the nearest repair, and the two result buffers.
+use crate::Answer;
+use crate::Letter;
+use crate::Nearest;
+use crate::Repair;
+use crate::gains::write_gains;
+use crate::vectors::nearest;
+use instance::Checked;
+use instance::Instance;
+use instance::refuse;
+use instance::wide;
+use matching::Judged;
+use matching::judge;
+use matching::write_matching;
+ghost use mathlib.Core.Path.{_≡_};
+ghost use mathlib.Core.List.{_++_};
+ghost use Prim.Native.Nat.{_≤_, _<_};
+ghost use lib.ListN.{length, drop};
+ghost use Rattle.laws.specs.Difference.{less};
+ghost use Rattle.laws.specs.Table.{cell};
+ghost use Rattle.laws.specs.Values.{vec, values};
+ghost use Rattle.instance.specs.Verdict.{verdictOf};
+ghost use Rattle.stable_theory.specs.Repairs.Answer.{answerOf};
+ghost use Rattle.matching.specs.ExtremeBytes.{Writable};
+ghost use Rattle.matching.specs.Kernel.{tableMarket};
+ghost use Rattle.repair.specs.Shown.{Small, shownReply, shownIf};
+ghost use Rattle.repair.specs.Nearest.{GivenIn, Shows};
+ghost use Rattle.repair.specs.Repair.{fixed, replyOf, replyIf, repairReply, repairMatching, repairGains};
+ghost use Rattle.repair.specs.Request.{checkPair};
+
+// The repair of the pair that the request names, student then mentor, or the first rule that is broken and where. A repair's matching goes to
+// the front of `out` and each student's places gained to that of `gains`; past n entries, and otherwise, both stay as they were.
+pub fn repair(
+    book: &[u8],
+    matching: &[u8],
+    request: &[u8],
+    out: &mut [u8],
+    gains: &mut [i8],
+) -> Answer
+    ensures reply { λ r. ⌜ replyOf r ≡ repairReply (now (book .entry)) (now (matching .entry)) (now (request .entry)) (now (out .entry)) (now (gains .entry)) ⌝ }
+    ensures bytes { λ _. ⌜ now (out .exit) ≡ repairMatching (now (book .entry)) (now (matching .entry)) (now (request .entry)) (now (out .entry)) (now (gains .entry)) ⌝ }
+    ensures places { λ _. ⌜ now (gains .exit) ≡ repairGains (now (book .entry)) (now (matching .entry)) (now (request .entry)) (now (out .entry)) (now (gains .entry)) ⌝ }
+{
+    let judged = judge(book, matching);
+    let checked = judged.checked;
+    let Checked::Fine = checked else {
+        return refused(checked);
+    };
+    let n = judged.instance.n;
+    let room = out.len();
+    let gains_room = gains.len();
+    let asked = check_pair(n, matching, request, room, gains_room);
+    let Checked::Fine = asked else {
+        return refused(asked);
+    };
+    let s = wide(request[0]);
+    let found = nearest_in(judged, s);
+    let men = judged.places.men;
+    answer(n, &judged.instance.man_lists, men, found, out, gains)
+}
+
+// A refusal as the answer for a pair; where nothing is refused, fixed.
+fn refused(checked: Checked) -> Answer
+    ensures { λ r. ⌜ replyOf r ≡ replyIf (verdictOf checked) fixed ⌝ }
+{
+    match checked {
+        Checked::Refused(r) => Answer::Refused(r),
+        Checked::Fine => Answer::Fixed,
+    }
+}
+
+// Rules 13, 11, 12 and 14 of a request, for a matching of n bytes.
+fn check_pair(n: usize, matching: &[u8], request: &[u8], room: usize, gains_room: usize) -> Checked
+    requires { ⌜ n ≤ length (now matching) ⌝ }
+    ensures { λ r. ⌜ verdictOf r ≡ checkPair n (now (matching .entry)) (now (request .entry)) room «gains_room» ⌝ }
+{
+    if request.len() != 2 {
+        return refuse(13, 0);
+    }
+    let s = wide(request[0]);
+    let w = wide(request[1]);
+    if n <= s {
+        return refuse(11, 0);
+    }
+    if n <= w {
+        return refuse(11, 0);
+    }
+    if wide(matching[s]) != w {
+        return refuse(12, 0);
+    }
+    if room < n {
+        return refuse(14, 0);
+    }
+    if gains_room < n {
+        return refuse(14, 0);
+    }
+    Checked::Fine
+}
+
+// The nearest repair of the pair of man s of a stable matching.
+fn nearest_in(judged: Judged, s: usize) -> Nearest
+    requires { ⌜ GivenIn (judged .instance) (judged .places) ⌝ }
+    requires { ⌜ s < judged .instance .n ⌝ }
+    ensures { λ r. ⌜ Shows (tableMarket (judged .instance .n) (judged .instance)) (vec (judged .places .men)) (answerOf (tableMarket (judged .instance .n) (judged .instance)) (λ i. 1) (vec (judged .places .men)) s) r ⌝ }
+{
+    let men = judged.places.men;
+    let women = judged.places.women;
+    nearest(
+        judged.instance.n,
+        &judged.instance.man_lengths,
+        &judged.instance.man_lists,
+        &judged.instance.man_ranks,
+        &judged.instance.woman_lengths,
+        &judged.instance.woman_lists,
+        &judged.instance.woman_ranks,
+        men,
+        women,
+        s,
+    )
+}
+
+// The answer for the nearest repair: its matching and the places gained from `men` are written, unless the pair is fixed.
+fn answer(
+    n: usize,
+    lists: &[u16],
+    men: [u16; Instance::LARGEST],
+    found: Nearest,
+    out: &mut [u8],
+    gains: &mut [i8],
+) -> Answer
+    requires { ⌜ Writable n (now lists) (found .men) (now out) ⌝ }
+    requires { ⌜ (Small n men) × (Small n (found .men)) ⌝ }
+    requires { ⌜ n ≤ length (now gains) ⌝ }
+    ensures reply { λ r. ⌜ replyOf r ≡ shownReply (found .letter) (found .distance) ⌝ }
+    ensures bytes { λ _. ⌜ now (out .exit) ≡ shownIf (found .letter) (values (λ i. cell (now (lists .entry)) n i (vec (found .men) i)) 0 n ++ drop n (now (out .entry))) (now (out .entry)) ⌝ }
+    ensures places { λ _. ⌜ now (gains .exit) ≡ shownIf (found .letter) (values (λ i. less (vec men i) (vec (found .men) i)) 0 n ++ drop n (now (gains .entry))) (now (gains .entry)) ⌝ }
+{
+    let letter = found.letter;
+    let distance = found.distance;
+    let places = found.men;
+    match letter {
+        Letter::Up => {
+            write_matching(n, lists, &places, out);
+            write_gains(n, &men, &places, gains);
+            Answer::Up(Repair { distance })
+        }
+        Letter::Down => {
+            write_matching(n, lists, &places, out);
+            write_gains(n, &men, &places, gains);
+            Answer::Down(Repair { distance })
+        }
+        Letter::Fixed => Answer::Fixed,
+    }
+}

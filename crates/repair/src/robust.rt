@@ -1,0 +1,98 @@
+// The grade of a matching.
+use crate::Graded;
+use crate::vectors::nearest;
+use instance::Checked;
+use instance::Instance;
+use matching::judge;
+ghost use mathlib.Core.Path.{_≡_};
+ghost use Prim.Native.Nat.{_-_};
+ghost use Rattle.laws.specs.Largest.{largest};
+ghost use Rattle.laws.specs.Values.{vec};
+ghost use Rattle.deferred.specs.Lists.{marketOf};
+ghost use Rattle.instance.specs.Verdict.{verdictOf};
+ghost use Rattle.repair.specs.Grade.{grade, replyOf, replyIf, gradeReply};
+ghost use Rattle.repair.specs.Nearest.{Given, costs};
+
+// The grade of a matching of a book: the largest distance of an answer, less 1, over the pairs that are not fixed; or the first rule that
+// is broken and where.
+pub fn grade(book: &[u8], matching: &[u8]) -> Graded
+    ensures { λ r. ⌜ replyOf r ≡ gradeReply (now (book .entry)) (now (matching .entry)) ⌝ }
+{
+    let judged = judge(book, matching);
+    let checked = judged.checked;
+    let Checked::Fine = checked else {
+        return ungraded(checked);
+    };
+    let men = judged.places.men;
+    let women = judged.places.women;
+    Graded::Grade(robustness(
+        judged.instance.n,
+        &judged.instance.man_lengths,
+        &judged.instance.man_lists,
+        &judged.instance.man_ranks,
+        &judged.instance.woman_lengths,
+        &judged.instance.woman_lists,
+        &judged.instance.woman_ranks,
+        men,
+        women,
+    ))
+}
+
+// A refusal as the answer for a matching; where nothing is refused, the grade 0.
+fn ungraded(checked: Checked) -> Graded
+    ensures { λ r. ⌜ replyOf r ≡ replyIf (verdictOf checked) (grade 0) ⌝ }
+{
+    match checked {
+        Checked::Refused(r) => Graded::Refused(r),
+        Checked::Fine => Graded::Grade(0),
+    }
+}
+
+// A number less 1, 0 for 0.
+fn less_one(x: usize) -> usize
+    ensures { λ r. ⌜ r ≡ x - 1 ⌝ }
+{
+    if x == 0 {
+        return 0;
+    }
+    x - 1
+}
+
+// The largest distance of an answer, less 1, over the pairs of n men.
+fn robustness<'a>(
+    n: usize,
+    mlens: &'a [u16],
+    mlists: &'a [u16],
+    mranks: &'a [u16],
+    wlens: &'a [u16],
+    wlists: &'a [u16],
+    wranks: &'a [u16],
+    men: [u16; Instance::LARGEST],
+    women: [u16; Instance::LARGEST],
+) -> usize
+    requires { ⌜ Given n (now mlens) (now mlists) (now mranks) (now wlens) (now wlists) (now wranks) men women ⌝ }
+    ensures { λ r. ⌜ r ≡ largest n (costs (marketOf n n (now (mlens .entry)) (now (mlists .entry)) (now (wlens .entry)) (now (wlists .entry))) (vec men)) ⌝ }
+{
+    let mut most = 0;
+    let mut s = 0;
+    while s < n {
+        let found = nearest(
+            n,
+            mlens,
+            mlists,
+            mranks,
+            wlens,
+            wlists,
+            wranks,
+            men,
+            women,
+            s,
+        );
+        let besides = less_one(found.distance);
+        if most < besides {
+            most = besides;
+        }
+        s += 1;
+    }
+    most
+}

@@ -1,0 +1,54 @@
+-- `repair_cases::run` is safe. Assumes nothing.
+use mathlib.Core.Path.{sym}
+use native.Mathlib.Omega.{arith}
+use lib.IntN.{pos}
+use lib.ListN.{replicate}
+use lib.Seq.{length-take-le}
+use borrow.Author.Needs.{needs}
+use Rattle.repair_cases.proofs.run.Statement.{statement}
+use Rattle.repair_cases.proofs.run.Tie as tie
+
+grade-requires : tie.Need-grade-requires
+grade-requires c κs = search needs
+
+print-grade-requires : tie.Need-print-grade-requires
+print-grade-requires c κs = search needs
+
+end-line-requires : tie.Need-end-line-requires
+end-line-requires c κs = search needs
+
+returns : tie.Need-returns
+returns c = search needs
+
+array-borrow-prefix-out : tie.Need-array-borrow-prefix-out
+array-borrow-prefix-out c = search needs
+
+slice-aggregate-run-in : tie.Need-slice-aggregate-run-in
+slice-aggregate-run-in c = sym (length-take-le _ (replicate 256 255) (omega arith))
+
+array-borrow-prefix-gains : tie.Need-array-borrow-prefix-gains
+array-borrow-prefix-gains c = search needs
+
+slice-aggregate-run-in-2 : tie.Need-slice-aggregate-run-in-2
+slice-aggregate-run-in-2 c = sym (length-take-le _ (replicate 256 (pos 100)) (omega arith))
+
+run-in-requires : tie.Need-run-in-requires
+run-in-requires c κs = search needs
+
+returns-2 : tie.Need-returns-2
+returns-2 c = search needs
+
+pub run-spec : {M : Type 1} → statement M
+run-spec =
+    tie.close
+    (tie.spec
+    grade-requires
+    print-grade-requires
+    end-line-requires
+    returns
+    array-borrow-prefix-out
+    slice-aggregate-run-in
+    array-borrow-prefix-gains
+    slice-aggregate-run-in-2
+    run-in-requires
+    returns-2)
