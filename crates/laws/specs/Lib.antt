@@ -8,6 +8,8 @@ pub mod Marks
 pub mod Pigeon
 pub mod Onto
 pub mod Cycle
+pub mod Covered
+pub mod Round
 pub mod Sum
 pub mod SumLaws
 pub mod Counting
@@ -16,6 +18,7 @@ pub mod Largest
 pub mod Difference
 pub mod Values
 pub mod Refill
+pub mod Walk
 pub mod Table
 pub mod Front
 pub mod Padded

@@ -4,6 +4,7 @@ pub mod ExtraVector
 pub mod NextLaws
 pub mod Eliminate
 pub mod EliminateStable
+pub mod EliminateMirror
 pub mod Dichotomy
 pub mod Numbering
 pub mod FollowLaws
@@ -22,4 +23,5 @@ pub mod RotationCount
 pub mod SharedMan
 pub mod Cover
 pub mod CanonicalStep
+pub mod RotationAlike
 pub mod Demand2Theory

@@ -1,0 +1,26 @@
+-- Rotations, their order and closed subsets: what the contracts of src/ cite. Assumes nothing.
+pub mod Pointers
+pub mod NextCode
+pub mod CycleCode
+pub mod Written
+pub mod EliminateCode
+pub mod WriteCode
+pub mod RunCode
+pub mod Numbers
+pub mod RotationList
+pub mod ListBytes
+pub mod Replies
+pub mod BookList
+pub mod Precedence
+pub mod Sets
+pub mod ListRead
+pub mod Required
+pub mod BookOrder
+pub mod SetCode
+pub mod Over
+pub mod PlaceTests
+pub mod SetPlaces
+pub mod BookSets
+pub mod SetVerdict
+pub mod ThereAndBack
+pub mod Demand2

@@ -1,0 +1,87 @@
+// The list of rotations: each by its number of pairs and then man and woman of each pair, from its lowest man, end to end in order of number.
+use crate::run::Numbering;
+use crate::run::number_all;
+use instance::Checked;
+use instance::Instance;
+use instance::Refusal;
+use instance::refuse;
+use matching::man_optimal_places;
+ghost use mathlib.Core.Path.{_≡_};
+ghost use mathlib.Core.List.{_++_};
+ghost use Prim.Native.Nat.{ℕ, _≤_, _<_};
+ghost use lib.ListN.{length, drop};
+ghost use Rattle.laws.specs.Values.{vec};
+ghost use Rattle.stable_theory.specs.Rotations.Numbering.{total};
+ghost use Rattle.instance.specs.Verdict.{verdictOf};
+ghost use Rattle.matching.specs.Usable.{Usable, marketIn};
+ghost use Rattle.matching.specs.Extreme.{filled};
+ghost use Rattle.rotations.specs.Numbers.{NumberingOf};
+ghost use Rattle.rotations.specs.RotationList.{rotationCount, listBytes, checkList, replyOf, counting};
+
+// How many rotations there are, or the rule that is broken.
+pub enum Listed {
+    Count(usize),
+    Refused(Refusal),
+}
+
+// Writes the list of rotations of a book to the front of `out`. A refusal leaves `out` as it was, and a success leaves what is past the list.
+pub fn list(book: &[u8], out: &mut [u8]) -> Listed
+    ensures reply { λ r. ⌜ replyOf r ≡ counting (checkList (now (book .entry)) (length (now (out .entry)))) (rotationCount (now (book .entry))) ⌝ }
+    ensures bytes { λ _. ⌜ now (out .exit) ≡ filled (checkList (now (book .entry)) (length (now (out .entry)))) (length (listBytes (now (book .entry)))) (listBytes (now (book .entry))) (now (out .entry)) ⌝ }
+{
+    let loaded = Instance::load(book);
+    let answer = loaded.checked;
+    let instance = loaded.instance;
+    let Checked::Fine = answer else {
+        return reply(answer, 0);
+    };
+    let rotations = all_of(instance);
+    let end = rotations.end;
+    if out.len() < end {
+        return reply(refuse(14, 0), 0);
+    }
+    let numbers = rotations.list;
+    copy(&numbers[..end], out);
+    Listed::Count(rotations.count)
+}
+
+// The reply after a check: so many, where nothing is refused.
+pub(crate) fn reply(checked: Checked, count: usize) -> Listed
+    ensures { λ r. ⌜ replyOf r ≡ counting (verdictOf checked) count ⌝ }
+{
+    match checked {
+        Checked::Fine => Listed::Count(count),
+        Checked::Refused(refusal) => Listed::Refused(refusal),
+    }
+}
+
+// How many rotations the market of a record has.
+pub fn count(instance: Instance) -> usize
+    requires { ⌜ Usable instance ⌝ }
+    ensures { λ r. ⌜ r ≡ total (marketIn instance) ⌝ }
+{
+    let rotations = all_of(instance);
+    rotations.count
+}
+
+// All rotations of a record.
+pub(crate) fn all_of(instance: Instance) -> Numbering
+    requires { ⌜ Usable instance ⌝ }
+    ensures { λ r. ⌜ NumberingOf instance r ⌝ }
+{
+    let places = man_optimal_places(instance);
+    number_all(instance, places)
+}
+
+// Writes numbers that fit a byte to the front of `out`.
+fn copy(numbers: &[u16], out: &mut [u8])
+    requires { ⌜ length (now numbers) ≤ length (now out) ⌝ }
+    requires { ⌜ ((v : ℕ) → v < length (now numbers) → vec (now numbers) v < 256) ⌝ }
+    ensures { λ _. ⌜ now (out .exit) ≡ now (numbers .entry) ++ drop (length (now (numbers .entry))) (now (out .entry)) ⌝ }
+{
+    let mut i = 0;
+    while i < numbers.len() {
+        out[i] = numbers[i] as u8;
+        i += 1;
+    }
+}

@@ -1,0 +1,178 @@
+// All rotations in order of number: of the rotations exposed the one that holds the lowest man is written and eliminated, until none is exposed.
+use crate::cycle::lowest;
+use crate::turn::eliminate;
+use crate::turn::write_cycle;
+use instance::Instance;
+use matching::Places;
+ghost use mathlib.Core.Path.{_≡_};
+ghost use Prim.Native.Nat.{_*_, _≤_, _<_};
+ghost use lib.ListN.{length};
+ghost use Rattle.laws.specs.Values.{vec};
+ghost use Rattle.stable_theory.specs.Stable.Holding.{Same};
+ghost use Rattle.stable_theory.specs.Least.Optimal.{proposer-optimal};
+ghost use Rattle.deferred.specs.Lists.{Tables, Sized, marketOf};
+ghost use Rattle.matching.specs.Usable.{Usable, marketIn};
+ghost use Rattle.matching.specs.ExtremePlaces.{PlacesOf};
+ghost use Rattle.rotations.specs.Pointers.{State};
+ghost use Rattle.rotations.specs.RunCode.{Room, Turned, Numbered};
+ghost use Rattle.rotations.specs.Numbers.{NumberingOf};
+
+// How many rotations there are, and where their list ends.
+pub(crate) struct Extent {
+    pub count: usize,
+    pub end: usize,
+}
+
+// Writes the exposed rotation that holds the lowest man at `at` and eliminates it. The answer is its number of pairs, 0 where none is exposed.
+fn next_rotation<'a>(
+    a: usize,
+    b: usize,
+    plens: &'a [u16],
+    plists: &'a [u16],
+    pranks: &'a [u16],
+    rlens: &'a [u16],
+    rlists: &'a [u16],
+    rranks: &'a [u16],
+    p: &mut [u16],
+    t: &mut [u16],
+    next: &mut [u16],
+    marks: &mut [u16],
+    list: &mut [u16],
+    at: usize,
+) -> usize
+    requires { ⌜ Tables a b (now plens) (now plists) (now rlens) (now rlists) (now rranks) ⌝ }
+    requires { ⌜ Tables b a (now rlens) (now rlists) (now plens) (now plists) (now pranks) ⌝ }
+    requires { ⌜ Sized a b (now p) (now t) ⌝ }
+    requires { ⌜ (length (now next) ≡ a) × (length (now marks) ≡ a) × (a < 65536) ⌝ }
+    requires { ⌜ State (marketOf a b (now plens) (now plists) (now rlens) (now rlists)) (vec (now p)) (vec (now t)) (vec (now next)) ⌝ }
+    requires { ⌜ Room a b (vec (now p)) at (now list) ⌝ }
+    ensures { λ r. ⌜ Turned (marketOf a b (now (plens .entry)) (now (plists .entry)) (now (rlens .entry)) (now (rlists .entry))) (vec (now (p .entry))) (now (list .entry)) at (vec (now (p .exit))) (vec (now (t .exit))) (vec (now (next .exit))) (now (list .exit)) r ⌝ }
+{
+    let x = lowest(
+        a,
+        b,
+        plens,
+        plists,
+        rlens,
+        rlists,
+        rranks,
+        p,
+        t,
+        next,
+        marks,
+    );
+    if a <= x {
+        return 0;
+    }
+    let pairs = write_cycle(
+        a,
+        b,
+        plens,
+        plists,
+        rlens,
+        rlists,
+        rranks,
+        p,
+        t,
+        next,
+        list,
+        at,
+        x,
+    );
+    eliminate(a, b, pranks, rranks, list, at, p, t);
+    pairs
+}
+
+// Writes all rotations into the list, end to end in order of number, from the student-best places p and their other side t on.
+pub(crate) fn fill<'a>(
+    a: usize,
+    b: usize,
+    plens: &'a [u16],
+    plists: &'a [u16],
+    pranks: &'a [u16],
+    rlens: &'a [u16],
+    rlists: &'a [u16],
+    rranks: &'a [u16],
+    p: &mut [u16],
+    t: &mut [u16],
+    next: &mut [u16],
+    marks: &mut [u16],
+    list: &mut [u16],
+) -> Extent
+    requires { ⌜ Tables a b (now plens) (now plists) (now rlens) (now rlists) (now rranks) ⌝ }
+    requires { ⌜ Tables b a (now rlens) (now rlists) (now plens) (now plists) (now pranks) ⌝ }
+    requires { ⌜ Sized a b (now p) (now t) ⌝ }
+    requires { ⌜ (length (now next) ≡ a) × (length (now marks) ≡ a) × (a < 65536) ⌝ }
+    requires { ⌜ State (marketOf a b (now plens) (now plists) (now rlens) (now rlists)) (vec (now p)) (vec (now t)) (vec (now next)) ⌝ }
+    requires { ⌜ Same (marketOf a b (now plens) (now plists) (now rlens) (now rlists)) (vec (now p)) (proposer-optimal (marketOf a b (now plens) (now plists) (now rlens) (now rlists))) ⌝ }
+    requires { ⌜ 5 * (a * b) ≤ 2 * length (now list) ⌝ }
+    ensures { λ r. ⌜ Numbered (marketOf a b (now (plens .entry)) (now (plists .entry)) (now (rlens .entry)) (now (rlists .entry))) (now (list .exit)) (r .count) (r .end) ⌝ }
+{
+    let mut count: usize = 0;
+    let mut at: usize = 0;
+    loop {
+        let pairs = next_rotation(
+            a,
+            b,
+            plens,
+            plists,
+            pranks,
+            rlens,
+            rlists,
+            rranks,
+            p,
+            t,
+            next,
+            marks,
+            list,
+            at,
+        );
+        if pairs == 0 {
+            return Extent { count, end: at };
+        }
+        at += 1 + 2 * pairs;
+        count += 1;
+    }
+}
+
+// All rotations of a record, end to end in order of number, with how many they are and where their list ends.
+pub(crate) struct Numbering {
+    pub list: [u16; ROOM],
+    pub count: usize,
+    pub end: usize,
+}
+
+// Two and a half numbers for each place: a pair takes two, a rotation one more, each moves at least two men, and no man goes back.
+pub(crate) const ROOM: usize = 10240;
+
+// All rotations of a record, from the student-best places.
+pub(crate) fn number_all(instance: Instance, places: Places) -> Numbering
+    requires { ⌜ Usable instance ⌝ }
+    requires { ⌜ PlacesOf instance (proposer-optimal (marketIn instance)) places ⌝ }
+    ensures { λ r. ⌜ NumberingOf instance r ⌝ }
+{
+    let n = instance.n;
+    let mut p = places.men;
+    let mut t = places.women;
+    let mut next = [0u16; Instance::LARGEST];
+    let mut marks = [0u16; Instance::LARGEST];
+    let mut list = [0u16; ROOM];
+    let extent = fill(
+        n,
+        n,
+        &instance.man_lengths,
+        &instance.man_lists,
+        &instance.man_ranks,
+        &instance.woman_lengths,
+        &instance.woman_lists,
+        &instance.woman_ranks,
+        &mut p[..n],
+        &mut t[..n],
+        &mut next[..n],
+        &mut marks[..n],
+        &mut list[..],
+    );
+    let count = extent.count;
+    let end = extent.end;
+    Numbering { list, count, end }
+}
