@@ -1,8 +1,8 @@
 // Reads: numbers and parts of some bytes; of a book, the directory and one list; and its size.
 ghost use mathlib.Core.Path.{_≡_};
-ghost use Prim.Native.Nat.{_+_, _*_, _<_, _≤_};
+ghost use Prim.Native.Nat.{_+_, _*_, _<_, _≤_, min};
 ghost use lib.ListN.{length, take, drop};
-ghost use Rattle.instance.specs.Format.{largest, word, offset, listLength, stretch, size};
+ghost use Rattle.instance.specs.Format.{people, word, offset, listLength, stretch, size};
 ghost use Rattle.instance.specs.Check.{Listed};
 
 // A byte as a number.
@@ -59,8 +59,23 @@ pub(crate) fn list_of(b: &[u8], k: usize) -> &[u8]
 
 // How many bytes a book of n men and n women has.
 pub(crate) fn size_of(n: usize) -> usize
-    requires { ⌜ n ≤ largest ⌝ }
+    requires { ⌜ n < 256 ⌝ }
     ensures { λ r. ⌜ r ≡ size n ⌝ }
 {
     2 + 8 * n + 2 * (n * n)
+}
+
+// Where the book ends in bytes that begin with one: after as many as its byte 1 says, or where they end before.
+pub fn book_end(input: &[u8]) -> usize
+    ensures { λ r. ⌜ r ≡ min (size (people (now (input .entry)))) (length (now (input .entry))) ⌝ }
+{
+    let len = input.len();
+    if len < 2 {
+        return len;
+    }
+    let size = size_of(wide(input[1]));
+    if len < size {
+        return len;
+    }
+    size
 }

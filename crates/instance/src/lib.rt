@@ -13,6 +13,7 @@ mod writer;
 ghost use mathlib.Core.Path.{_≡_};
 ghost use Rattle.instance.specs.Verdict.{verdictOf, broken};
 pub use book::check;
+pub use field::book_end;
 pub use field::wide;
 pub use lists::first_faulty;
 pub use person::check_man;

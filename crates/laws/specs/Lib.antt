@@ -25,3 +25,4 @@ pub mod Padded
 pub mod Stores
 pub mod FrontStores
 pub mod Overwrite
+pub mod Cut

@@ -1,10 +1,10 @@
 -- Laws of sums: order, equality, one changed term, and sums over the numbers that pass a test. Assumes nothing.
 use Prim.Native.Nat.{ℕ, zero, suc, _+_, _≤_, _<_}
 use mathlib.Core.Path.{_≡_, refl}
-use mathlib.Core.Bool.{Bool, true}
+use mathlib.Core.Bool.{Bool, true, false}
 use native.Mathlib.Omega.{arith}
 use Rattle.laws.specs.Choice.{pick, same, tested}
-use Rattle.laws.specs.Sum.{sum}
+use Rattle.laws.specs.Sum.{sum, count}
 
 -- larger terms, larger sum
 pub sum-le : (n : ℕ) (f g : ℕ → ℕ) → ((i : ℕ) → i < n → f i ≤ g i) → sum n f ≤ sum n g
@@ -37,3 +37,12 @@ pub sum-passed : (n : ℕ) (p q : ℕ → Bool) (c : ℕ → ℕ) → ((i : ℕ)
 sum-passed n p q c h =
     sum-le n (λ i. pick (p i) (c i) 0) (λ i. pick (q i) (c i) 0)
     (λ i (u : i < n). tested {C = pick (p i) (c i) 0 ≤ pick (q i) (c i) 0} (p i) (λ e. rw (e, h i u e) (omega arith)) (λ e. rw e (omega arith)))
+
+-- at most n numbers below n pass a test
+pub count-most : (n : ℕ) (p : ℕ → Bool) → count n p ≤ n
+count-most zero p = omega arith
+count-most (suc n) p = omega (arith, count-most n p, one (p n))
+  where
+    one : (t : Bool) → pick t 1 0 ≤ 1
+    one true = omega arith
+    one false = omega arith

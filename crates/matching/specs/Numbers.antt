@@ -12,7 +12,7 @@ use Rattle.instance.specs.Format.{largest, byte, people, offset, listLength, en
 use Rattle.instance.specs.Lists.{stranger, firstFaulty, firstFaultyList, checkLists}
 use Rattle.instance.specs.Faults.{lists-fine, lists-refused}
 use Rattle.instance.specs.Check.{firstMisfiled, checkBook}
-use Rattle.matching.specs.Matching.{checkNames}
+use Rattle.matching.specs.Matching.{lowestBlocking, checkNames, checkStable, checkMatching}
 
 -- The number by which a verdict refuses, 0 where it refuses nothing
 abbrev pub numberOf : Verdict → ℕ
@@ -52,6 +52,21 @@ pub names-most : (n : ℕ) (m : List ℕ) → numberOf (checkNames n m) ≤ 9
 unfolding checkNames
 names-most n m =
     most 9 (not (eqb (length m) n)) 8 _ _ (omega arith) (most 9 (ltb (firstFaulty n (byte m) n) n) 9 _ _ (omega arith) (omega arith))
+
+-- and then by 10
+both-most : (top : ℕ) (v rest : Verdict) → numberOf v ≤ top → numberOf rest ≤ top → numberOf (andThen v rest) ≤ top
+both-most top fine rest h k = k
+both-most top (refused number place second) rest h k = h
+
+pub matching-most : (b m : List ℕ) → numberOf (checkMatching b m) ≤ 10
+unfolding checkMatching checkStable
+matching-most b m =
+    both-most 10 (checkBook b) _ (omega (arith, book-most b))
+    (both-most 10 (checkNames (people b) m) _ (omega (arith, names-most (people b) m)) (ten (ltb (lowestBlocking b m) (people b)) (lowestBlocking b m) _))
+  where
+    ten : (t : Bool) (i w : ℕ) → numberOf (pick t (refused 10 i w) fine) ≤ 10
+    ten true i w = omega arith
+    ten false i w = omega arith
 
 -- a check that the verdict on it and what follows does not name found nothing
 pub all-past : (v rest : Verdict) {u : Verdict} → ((number place second : ℕ) → v ≡ refused number place second → u ≡ refused number place second → ⊥) → andThen v rest ≡ u → (v ≡ fine) × (rest ≡ u)

@@ -12,3 +12,7 @@ few-square h = mul-le-mul h h
 -- k lists and one more have no more than 2 × n × n entries
 pub list-end : (n : ℕ) {k : ℕ} → k < 2 * n → k * n + n ≤ 2 * (n * n)
 list-end n h = omega (arith, row-end n h, mul-assoc 2 n n)
+
+-- the square of a byte
+pub byte-square : {n : ℕ} → n < 256 → n * n ≤ 255 * 255
+byte-square {n} h = let u : n ≤ 255 = omega arith in mul-le-mul u u

@@ -1,8 +1,8 @@
--- `instance::field::size_of` meets its contract. No sum wraps, since n is at most 64. Assumes nothing.
+-- `instance::field::size_of` meets its contract. No sum wraps, since the square of a byte is small. Assumes nothing.
 use mathlib.Core.Path.{refl}
 use native.Mathlib.Omega.{arith}
 use Rattle.instance.specs.Format.{size}
-use Rattle.instance.specs.Laws.Bounds.{few-square}
+use Rattle.instance.specs.Laws.Bounds.{byte-square}
 use Rattle.instance.proofs.field.size_of.Statement.{statement}
 use Rattle.instance.proofs.field.size_of.Tie as tie
 
@@ -13,13 +13,13 @@ add-result : tie.Need-add-result
 add-result c = omega arith
 
 mul-result-2 : tie.Need-mul-result-2
-mul-result-2 c = omega (arith, few-square (c .pre))
+mul-result-2 c = omega (arith, byte-square (c .pre))
 
 mul-result-3 : tie.Need-mul-result-3
-mul-result-3 c = omega (arith, few-square (c .pre))
+mul-result-3 c = omega (arith, byte-square (c .pre))
 
 add-result-2 : tie.Need-add-result-2
-add-result-2 c = omega (arith, few-square (c .pre))
+add-result-2 c = omega (arith, byte-square (c .pre))
 
 returns : tie.Need-returns
 unfolding size

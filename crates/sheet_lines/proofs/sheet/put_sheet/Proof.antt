@@ -1,0 +1,104 @@
+-- `sheet_lines::sheet::put_sheet` meets its contract: the line of the refusal, or the answers where the check refused nothing. Assumes nothing.
+use mathlib.Core.Path.{_≡_, sym, _∙_, ap}
+use native.Mathlib.Omega.{arith}
+use lib.ListN.{length, take}
+use lib.Seq.{length-take-le}
+use Rattle.instance.specs.Verdict.{fine, verdictOf}
+use Rattle.matching.specs.Matching.{checkMatching}
+use Rattle.repair.specs.Laws.Book.{judged-given}
+use Rattle.sheet_lines.specs.Sheet.{sheetOf}
+use Rattle.sheet_lines.specs.Over.{sheetOver}
+use Rattle.sheet_lines.specs.Laws.Parts.{rest, end-within, sheet-refusal, sheet-answers}
+use Rattle.sheet_lines.specs.Laws.Short.{sheet-short}
+use Rattle.sheet_lines.specs.Laws.Over.{record-usable, matching-long, totals, sheet-over}
+use borrow.Author.Needs.{needs}
+use Rattle.sheet_lines.proofs.sheet.put_sheet.Statement.{statement}
+use Rattle.sheet_lines.proofs.sheet.put_sheet.Tie as tie
+
+book-end-requires : tie.Need-book-end-requires
+book-end-requires c κs = search needs
+
+slice-aggregate-judge : tie.Need-slice-aggregate-judge
+slice-aggregate-judge c = sym (length-take-le _ _ (end-within (c .before .before .before .before .args .input .now) (c .before .book-end .ensures)))
+
+sub-judge : tie.Need-sub-judge
+sub-judge c = search needs
+
+part-judge-start : tie.Need-part-judge-start
+part-judge-start c = search needs
+
+part-judge-end : tie.Need-part-judge-end
+part-judge-end c = search needs
+
+judge-requires : tie.Need-judge-requires
+judge-requires c κs = search needs
+
+enum-told : tie.Need-enum-told
+enum-told c = search needs
+
+enum-told-2 : tie.Need-enum-told-2
+enum-told-2 c = search needs
+
+put-refused-requires : tie.Need-put-refused-requires
+put-refused-requires c κs = search needs
+
+same-length : tie.Need-same-length
+same-length c = search needs
+
+returns : tie.Need-returns
+returns c =
+    rw (sheet-refusal (c .before .before .before .before .before .before .before .before .before .before .before .before .args .input .now) (c .before .before .before .before .before .before .before .before .before .book-end .ensures) (c .before .before .before .before .before .before .judge .ensures .checked) (c .before .before .before .before .enum-told2 .given .1))
+    (c .before .before .put-refused .ensures)
+
+-- nothing is refused where the check answered so
+passed : (c : tie.After-enum-told) → checkMatching (take (c .before .before .before .before .before .book-end .result) (c .before .before .before .before .before .before .before .before .args .input .now)) (rest (c .before .before .before .before .before .before .before .before .args .input .now) (c .before .before .before .before .before .book-end .result)) ≡ fine
+passed c = sym (c .before .before .judge .ensures .checked) ∙ ap verdictOf (c .enum-told .given .1)
+
+-- so the sheet over what the check leaves is the sheet
+whole : (c : tie.After-enum-told) → sheetOver (c .before .before .judge .result) (rest (c .before .before .before .before .before .before .before .before .args .input .now) (c .before .before .before .before .before .book-end .result)) ≡ sheetOf (c .before .before .before .before .before .before .before .before .args .input .now)
+whole c =
+    let J = c .before .before .judge .ensures in
+    sheet-over J (passed c) (totals J (passed c)) ∙ sym (sheet-answers (c .before .before .before .before .before .before .before .before .args .input .now) (c .before .before .before .before .before .book-end .ensures) (passed c))
+
+sub-put-answers : tie.Need-sub-put-answers
+sub-put-answers c = search needs
+
+part-put-answers-start : tie.Need-part-put-answers-start
+part-put-answers-start c = search needs
+
+part-put-answers-end : tie.Need-part-put-answers-end
+part-put-answers-end c = search needs
+
+put-answers-requires : tie.Need-put-answers-requires
+put-answers-requires c κs =
+    let J = c .before .before .before .before .judge .ensures in
+    let f = passed (c .before .before) in
+    ((record-usable J f, judged-given J f), (matching-long J f, omega (arith, ap length (whole (c .before .before)), sheet-short (c .before .before .before .before .before .before .before .before .before .before .args .input .now))))
+
+same-length-2 : tie.Need-same-length-2
+same-length-2 c = search needs
+
+returns-2 : tie.Need-returns-2
+returns-2 c = rw (← whole (c .before .before .before .before .before)) (c .before .before .put-answers .ensures)
+
+pub put-sheet-spec : {M : Type 1} → statement M
+put-sheet-spec =
+    tie.close
+    (tie.spec
+    book-end-requires
+    slice-aggregate-judge
+    sub-judge
+    part-judge-start
+    part-judge-end
+    judge-requires
+    enum-told
+    enum-told-2
+    put-refused-requires
+    same-length
+    returns
+    sub-put-answers
+    part-put-answers-start
+    part-put-answers-end
+    put-answers-requires
+    same-length-2
+    returns-2)

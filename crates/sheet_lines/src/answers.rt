@@ -1,0 +1,100 @@
+// The lines of a stable matching: the letter and the distance of each answer, and the sheet with them.
+use crate::grade::grade_of;
+use crate::lines::put_pairs;
+use crate::lines::put_top;
+use instance::Instance;
+use matching::Judged;
+use repair::Letter;
+use repair::nearest;
+use rotations::count;
+ghost use mathlib.Core.Path.{_≡_};
+ghost use Prim.Native.Nat.{_≤_};
+ghost use lib.ListN.{length};
+ghost use Rattle.laws.specs.Values.{vec};
+ghost use Rattle.deferred.specs.Lists.{marketOf};
+ghost use Rattle.matching.specs.Usable.{Usable};
+ghost use Rattle.repair.specs.Nearest.{Given, GivenIn};
+ghost use Rattle.sheet_lines.specs.Put.{Put};
+ghost use Rattle.sheet_lines.specs.Answered.{letterByte, Answered};
+ghost use Rattle.sheet_lines.specs.Over.{sheetOver};
+
+// The letter as a byte.
+fn letter_byte(letter: Letter) -> u8
+    ensures { λ r. ⌜ r ≡ letterByte letter ⌝ }
+{
+    match letter {
+        Letter::Up => b'U',
+        Letter::Down => b'D',
+        Letter::Fixed => b'F',
+    }
+}
+
+// The letter and the distance of the answer for each of n men.
+pub(crate) fn fill_answers<'a>(
+    n: usize,
+    mlens: &'a [u16],
+    mlists: &'a [u16],
+    mranks: &'a [u16],
+    wlens: &'a [u16],
+    wlists: &'a [u16],
+    wranks: &'a [u16],
+    men: [u16; Instance::LARGEST],
+    women: [u16; Instance::LARGEST],
+    letters: &mut [u8],
+    distances: &mut [usize],
+)
+    requires { ⌜ Given n (now mlens) (now mlists) (now mranks) (now wlens) (now wlists) (now wranks) men women ⌝ }
+    requires { ⌜ (n ≤ length (now letters)) × (n ≤ length (now distances)) ⌝ }
+    ensures { λ _. ⌜ Answered (marketOf n n (now (mlens .entry)) (now (mlists .entry)) (now (wlens .entry)) (now (wlists .entry))) (vec men) n n (now (letters .exit)) (now (distances .exit)) ⌝ }
+{
+    let mut s = 0;
+    while s < n {
+        let found = nearest(
+            n,
+            mlens,
+            mlists,
+            mranks,
+            wlens,
+            wlists,
+            wranks,
+            men,
+            women,
+            s,
+        );
+        let letter = found.letter;
+        letters[s] = letter_byte(letter);
+        distances[s] = found.distance;
+        s += 1;
+    }
+}
+
+// Puts the sheet of a stable matching at the front of `text`.
+pub(crate) fn put_answers(judged: Judged, matching: &[u8], text: &mut [u8]) -> usize
+    requires { ⌜ (Usable (judged .instance)) × (GivenIn (judged .instance) (judged .places)) ⌝ }
+    requires { ⌜ (judged .instance .n ≤ length (now matching)) × (length (sheetOver judged (now matching)) ≤ length (now text)) ⌝ }
+    ensures { λ r. ⌜ Put (now (text .entry)) 0 (sheetOver judged (now (matching .entry))) (now (text .exit)) r ⌝ }
+{
+    let instance = judged.instance;
+    let n = instance.n;
+    let men = judged.places.men;
+    let women = judged.places.women;
+    let mut letters = [0u8; Instance::LARGEST];
+    let mut distances = [0usize; Instance::LARGEST];
+    fill_answers(
+        n,
+        &instance.man_lengths,
+        &instance.man_lists,
+        &instance.man_ranks,
+        &instance.woman_lengths,
+        &instance.woman_lists,
+        &instance.woman_ranks,
+        men,
+        women,
+        &mut letters[..],
+        &mut distances[..],
+    );
+    let grade = grade_of(&distances[..], n);
+    let rotations = count(instance);
+    let end = put_top(text, 0, n, rotations, grade);
+    put_pairs(text, end, n, matching, &letters[..], &distances[..])
+}

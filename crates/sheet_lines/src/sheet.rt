@@ -1,0 +1,48 @@
+// The sheet of what was read, a book and a matching.
+use crate::LONGEST;
+use crate::Written;
+use crate::answers::put_answers;
+use crate::lines::put_refused;
+use instance::Checked;
+use instance::Refusal;
+use instance::book_end;
+use matching::judge;
+ghost use mathlib.Core.Path.{_≡_};
+ghost use Prim.Native.Nat.{_≤_};
+ghost use lib.ListN.{length};
+ghost use Rattle.sheet_lines.specs.Sheet.{sheetOf};
+ghost use Rattle.sheet_lines.specs.Reply.{replyOf, sheetReply, sheetBuffer};
+ghost use Rattle.sheet_lines.specs.Put.{Put};
+
+// Writes the sheet to the front of `out` and says how many bytes it has, or refuses by 14 where `out` is too short.
+// A refusal leaves `out` as it was, and a success leaves what is past the sheet.
+pub fn write_sheet(input: &[u8], out: &mut [u8]) -> Written
+    ensures reply { λ r. ⌜ replyOf r ≡ sheetReply (now (input .entry)) (length (now (out .entry))) ⌝ }
+    ensures bytes { λ _. ⌜ now (out .exit) ≡ sheetBuffer (now (input .entry)) (now (out .entry)) ⌝ }
+{
+    let mut text = [0u8; LONGEST];
+    let len = put_sheet(input, &mut text[..]);
+    if out.len() < len {
+        return Written::Refused(Refusal {
+            number: 14,
+            place: 0,
+            second: 0,
+        });
+    }
+    bytes::copy(&text[..len], out);
+    Written::Bytes(len)
+}
+
+// Puts the sheet at the front of `text`. It goes on to repairs only where the check answered stable.
+fn put_sheet(input: &[u8], text: &mut [u8]) -> usize
+    requires { ⌜ 715 ≤ length (now text) ⌝ }
+    ensures { λ r. ⌜ Put (now (text .entry)) 0 (sheetOf (now (input .entry))) (now (text .exit)) r ⌝ }
+{
+    let end = book_end(input);
+    let judged = judge(&input[..end], &input[end..]);
+    let checked = judged.checked;
+    let Checked::Fine = checked else {
+        return put_refused(text, checked);
+    };
+    put_answers(judged, &input[end..], text)
+}

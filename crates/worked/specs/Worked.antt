@@ -1,0 +1,149 @@
+-- The cases that document 01 marks P, proved of the definitions that the contracts cite: one table of what is computed and what document 01
+-- says, and one computed fact that covers its rows. Books and matchings are the bytes of document 01. Assumes nothing.
+use Prim.Native.Nat.{ℕ, _<_}
+use mathlib.Core.Path.{_≡_, refl}
+use mathlib.Core.Bool.{Bool, true, not}
+use mathlib.Core.List.{List, [], _∷_, _++_}
+use lib.Dec.{eqb, ltb}
+use lib.ListN.{length, getD}
+use Rattle.laws.specs.Cycle.{returns, period, backAfter}
+use Rattle.instance.specs.Verdict.{Verdict, fine, refused, rule}
+use Rattle.instance.specs.Format.{offset, listLength, due, entry, size}
+use Rattle.instance.specs.Lists.{firstFaulty, firstFaultyList, checkLists}
+use Rattle.instance.specs.Check.{firstMisfiled, checkBook}
+use Rattle.instance.specs.Write.{directory, bookOf}
+use Rattle.stable_theory.specs.Stable.Holder.{mirror, holder, holding}
+use Rattle.stable_theory.specs.Least.Settle.{least, settle, onward, beaten, outranks}
+use Rattle.stable_theory.specs.Least.Optimal.{proposer-optimal, receiver-optimal}
+use Rattle.stable_theory.specs.Least.StableTest.{isStable, unheld, reaching}
+use Rattle.stable_theory.specs.Matchings.Matching.{places, partners}
+use Rattle.stable_theory.specs.Repairs.Repair.{down, up, moved, weight}
+use Rattle.stable_theory.specs.Repairs.Answer.{answerOf, nearer, cost, robustness}
+use Rattle.stable_theory.specs.Rotations.Rotation.{eliminate, pairOf, passed}
+use Rattle.stable_theory.specs.Rotations.Numbering.{preferred, willing, nextPlace, follow, followers, lowest, rotationAt, rotationsFrom, rotations, total, rotation}
+use Rattle.stable_theory.specs.Rotations.Subset.{after, vectorOf, required, precedes, closed}
+use Rattle.matching.specs.BookMarket.{market}
+use Rattle.matching.specs.Matching.{blocks, bestBlocking, lowestBlocking, checkNames, checkStable, checkMatching}
+use Rattle.matching.specs.Extreme.{manOptimal, womanOptimal, matchingOf}
+use Rattle.rotations.specs.RotationList.{rotationBytes}
+use Rattle.sheet_lines.specs.Decimal.{decimalIn, decimal}
+use Rattle.sheet_lines.specs.Line.{line, topLine, pairLine, pairLines, refusalLine}
+use Rattle.sheet_lines.specs.Sheet.{answers, sheetOf}
+use Rattle.worked.specs.Agree.{Row, agree, agree-each}
+
+-- The book of two students and two mentors: students 0 1 and 1 0, mentors 1 0 and 0 1
+abbrev pub two : List ℕ
+two =
+    1 ∷ 2 ∷
+    18 ∷ 0 ∷ 2 ∷ 0 ∷ 20 ∷ 0 ∷ 2 ∷ 0 ∷ 22 ∷ 0 ∷ 2 ∷ 0 ∷ 24 ∷ 0 ∷ 2 ∷ 0 ∷
+    0 ∷ 1 ∷ 1 ∷ 0 ∷
+    1 ∷ 0 ∷ 0 ∷ 1 ∷
+    []
+
+-- The one in which all four lists are 0 1
+abbrev pub alike : List ℕ
+alike =
+    1 ∷ 2 ∷
+    18 ∷ 0 ∷ 2 ∷ 0 ∷ 20 ∷ 0 ∷ 2 ∷ 0 ∷ 22 ∷ 0 ∷ 2 ∷ 0 ∷ 24 ∷ 0 ∷ 2 ∷ 0 ∷
+    0 ∷ 1 ∷ 0 ∷ 1 ∷
+    0 ∷ 1 ∷ 0 ∷ 1 ∷
+    []
+
+-- Table 1 of document 000: edition and n, the directory, the lists of the students and those of the mentors
+abbrev pub table1 : List ℕ
+table1 =
+    1 ∷ 7 ∷
+    58 ∷ 0 ∷ 7 ∷ 0 ∷ 65 ∷ 0 ∷ 7 ∷ 0 ∷ 72 ∷ 0 ∷ 7 ∷ 0 ∷ 79 ∷ 0 ∷ 7 ∷ 0 ∷ 86 ∷ 0 ∷ 7 ∷ 0 ∷ 93 ∷ 0 ∷ 7 ∷ 0 ∷ 100 ∷ 0 ∷ 7 ∷ 0 ∷
+    107 ∷ 0 ∷ 7 ∷ 0 ∷ 114 ∷ 0 ∷ 7 ∷ 0 ∷ 121 ∷ 0 ∷ 7 ∷ 0 ∷ 128 ∷ 0 ∷ 7 ∷ 0 ∷ 135 ∷ 0 ∷ 7 ∷ 0 ∷ 142 ∷ 0 ∷ 7 ∷ 0 ∷ 149 ∷ 0 ∷ 7 ∷ 0 ∷
+    0 ∷ 6 ∷ 5 ∷ 2 ∷ 4 ∷ 1 ∷ 3 ∷
+    6 ∷ 1 ∷ 4 ∷ 5 ∷ 0 ∷ 2 ∷ 3 ∷
+    6 ∷ 0 ∷ 3 ∷ 1 ∷ 5 ∷ 4 ∷ 2 ∷
+    3 ∷ 2 ∷ 0 ∷ 1 ∷ 4 ∷ 6 ∷ 5 ∷
+    1 ∷ 2 ∷ 0 ∷ 3 ∷ 4 ∷ 5 ∷ 6 ∷
+    6 ∷ 1 ∷ 0 ∷ 3 ∷ 5 ∷ 4 ∷ 2 ∷
+    2 ∷ 5 ∷ 0 ∷ 6 ∷ 4 ∷ 3 ∷ 1 ∷
+    2 ∷ 1 ∷ 6 ∷ 4 ∷ 5 ∷ 3 ∷ 0 ∷
+    0 ∷ 4 ∷ 3 ∷ 5 ∷ 2 ∷ 6 ∷ 1 ∷
+    2 ∷ 5 ∷ 0 ∷ 4 ∷ 3 ∷ 1 ∷ 6 ∷
+    6 ∷ 1 ∷ 2 ∷ 3 ∷ 4 ∷ 0 ∷ 5 ∷
+    4 ∷ 6 ∷ 0 ∷ 5 ∷ 3 ∷ 1 ∷ 2 ∷
+    3 ∷ 1 ∷ 2 ∷ 6 ∷ 5 ∷ 4 ∷ 0 ∷
+    4 ∷ 6 ∷ 2 ∷ 1 ∷ 3 ∷ 0 ∷ 5 ∷
+    []
+
+-- A verdict as numbers: none where nothing is refused, else the number and the two places
+abbrev pub numbers : Verdict → List ℕ
+numbers fine = []
+numbers (refused number place second) = number ∷ place ∷ second ∷ []
+
+-- The matching of a set of Table 1's rotations, and the verdict on the set: 16
+abbrev pub fromSet : (ℕ → Bool) → List ℕ
+fromSet set = matchingOf table1 (vectorOf (market table1) (total (market table1)) (rotation (market table1)) set)
+
+abbrev pub checkSet : (ℕ → Bool) → Verdict
+checkSet set = rule (not (closed (market table1) (total (market table1)) (rotation (market table1)) set)) 16 0 fine
+
+-- Each row: what is computed, and what document 01 says
+abbrev pub table : List Row
+table =
+    -- n = 0, empty matching: sheet `0 0 0`
+    (sheetOf (1 ∷ 0 ∷ []), 48 ∷ 32 ∷ 48 ∷ 32 ∷ 48 ∷ 10 ∷ []) ∷
+    -- n = 1: `1 0 0`, then `0 0 F 0`
+    (sheetOf (1 ∷ 1 ∷ 10 ∷ 0 ∷ 1 ∷ 0 ∷ 11 ∷ 0 ∷ 1 ∷ 0 ∷ 0 ∷ 0 ∷ 0 ∷ []), 49 ∷ 32 ∷ 48 ∷ 32 ∷ 48 ∷ 10 ∷ 48 ∷ 32 ∷ 48 ∷ 32 ∷ 70 ∷ 32 ∷ 48 ∷ 10 ∷ []) ∷
+    -- two by two, matching 0 1: `2 1 1` and two D lines of distance 2
+    (sheetOf (two ++ (0 ∷ 1 ∷ [])), 50 ∷ 32 ∷ 49 ∷ 32 ∷ 49 ∷ 10 ∷ 48 ∷ 32 ∷ 48 ∷ 32 ∷ 68 ∷ 32 ∷ 50 ∷ 10 ∷ 49 ∷ 32 ∷ 49 ∷ 32 ∷ 68 ∷ 32 ∷ 50 ∷ 10 ∷ []) ∷
+    -- matching 1 0: two U lines
+    (sheetOf (two ++ (1 ∷ 0 ∷ [])), 50 ∷ 32 ∷ 49 ∷ 32 ∷ 49 ∷ 10 ∷ 48 ∷ 32 ∷ 49 ∷ 32 ∷ 85 ∷ 32 ∷ 50 ∷ 10 ∷ 49 ∷ 32 ∷ 48 ∷ 32 ∷ 85 ∷ 32 ∷ 50 ∷ 10 ∷ []) ∷
+    -- the other two by two, matching 1 0: refused 10, student 0, mentor 0
+    (numbers (checkMatching alike (1 ∷ 0 ∷ [])), 10 ∷ 0 ∷ 0 ∷ []) ∷
+    -- and so in its sheet
+    (sheetOf (alike ++ (1 ∷ 0 ∷ [])), 114 ∷ 101 ∷ 102 ∷ 117 ∷ 115 ∷ 101 ∷ 100 ∷ 32 ∷ 49 ∷ 48 ∷ 10 ∷ []) ∷
+    -- Table 1, student-best
+    (manOptimal table1, 5 ∷ 4 ∷ 6 ∷ 3 ∷ 1 ∷ 0 ∷ 2 ∷ []) ∷
+    -- mentor-best
+    (womanOptimal table1, 1 ∷ 3 ∷ 0 ∷ 5 ∷ 4 ∷ 2 ∷ 6 ∷ []) ∷
+    -- rotation 1: (1,4) (6,5) (5,0)
+    (rotationBytes (rotation (market table1) 1), 3 ∷ 1 ∷ 4 ∷ 6 ∷ 5 ∷ 5 ∷ 0 ∷ []) ∷
+    -- set 0, 1, 2
+    (fromSet (λ k. ltb k 3), 4 ∷ 5 ∷ 6 ∷ 3 ∷ 1 ∷ 2 ∷ 0 ∷ []) ∷
+    -- set 2 alone: refused 16
+    (numbers (checkSet (λ k. eqb k 2)), 16 ∷ 0 ∷ 0 ∷ []) ∷
+    -- the sheet of section 'The sheet'
+    (sheetOf (table1 ++ (4 ∷ 5 ∷ 6 ∷ 3 ∷ 1 ∷ 2 ∷ 0 ∷ [])), 55 ∷ 32 ∷ 54 ∷ 32 ∷ 51 ∷ 10 ∷ 48 ∷ 32 ∷ 52 ∷ 32 ∷ 85 ∷ 32 ∷ 50 ∷ 10 ∷ 49 ∷ 32 ∷ 53 ∷ 32 ∷ 85 ∷ 32 ∷ 52 ∷ 10 ∷ 50 ∷ 32 ∷ 54 ∷ 32 ∷ 68 ∷ 32 ∷ 50 ∷ 10 ∷ 51 ∷ 32 ∷ 51 ∷ 32 ∷ 68 ∷ 32 ∷ 52 ∷ 10 ∷ 52 ∷ 32 ∷ 49 ∷ 32 ∷ 68 ∷ 32 ∷ 50 ∷ 10 ∷ 53 ∷ 32 ∷ 50 ∷ 32 ∷ 85 ∷ 32 ∷ 50 ∷ 10 ∷ 54 ∷ 32 ∷ 48 ∷ 32 ∷ 68 ∷ 32 ∷ 50 ∷ 10 ∷ []) ∷
+    []
+
+-- What is computed is what document 01 says, in every row
+pub worked : agree table ≡ true
+unfolding decimalIn decimal line topLine pairLine pairLines refusalLine answers sheetOf offset listLength due entry size firstFaulty firstFaultyList checkLists firstMisfiled checkBook
+    mirror holder holding least settle onward beaten outranks proposer-optimal receiver-optimal isStable unheld reaching places partners down up moved weight answerOf nearer cost robustness
+    eliminate pairOf passed preferred willing nextPlace follow followers lowest rotationAt rotationsFrom rotations after vectorOf required precedes closed returns period backAfter
+    market blocks bestBlocking lowestBlocking checkNames checkStable checkMatching manOptimal womanOptimal
+worked = refl
+
+-- so in row i
+pub worked-row : (i : ℕ) → i < length table → getD table i ([], []) .0 ≡ getD table i ([], []) .1
+worked-row = agree-each table worked
+
+-- The bytes are those that the writer makes of the lists
+pub two-written : bookOf 2 ((0 ∷ 1 ∷ []) ++ (1 ∷ 0 ∷ []) ++ (1 ∷ 0 ∷ []) ++ (0 ∷ 1 ∷ [])) ≡ two
+unfolding bookOf directory
+two-written = refl
+
+pub table1-written :
+    bookOf 7
+    ((0 ∷ 6 ∷ 5 ∷ 2 ∷ 4 ∷ 1 ∷ 3 ∷ [])
+    ++ (6 ∷ 1 ∷ 4 ∷ 5 ∷ 0 ∷ 2 ∷ 3 ∷ [])
+    ++ (6 ∷ 0 ∷ 3 ∷ 1 ∷ 5 ∷ 4 ∷ 2 ∷ [])
+    ++ (3 ∷ 2 ∷ 0 ∷ 1 ∷ 4 ∷ 6 ∷ 5 ∷ [])
+    ++ (1 ∷ 2 ∷ 0 ∷ 3 ∷ 4 ∷ 5 ∷ 6 ∷ [])
+    ++ (6 ∷ 1 ∷ 0 ∷ 3 ∷ 5 ∷ 4 ∷ 2 ∷ [])
+    ++ (2 ∷ 5 ∷ 0 ∷ 6 ∷ 4 ∷ 3 ∷ 1 ∷ [])
+    ++ (2 ∷ 1 ∷ 6 ∷ 4 ∷ 5 ∷ 3 ∷ 0 ∷ [])
+    ++ (0 ∷ 4 ∷ 3 ∷ 5 ∷ 2 ∷ 6 ∷ 1 ∷ [])
+    ++ (2 ∷ 5 ∷ 0 ∷ 4 ∷ 3 ∷ 1 ∷ 6 ∷ [])
+    ++ (6 ∷ 1 ∷ 2 ∷ 3 ∷ 4 ∷ 0 ∷ 5 ∷ [])
+    ++ (4 ∷ 6 ∷ 0 ∷ 5 ∷ 3 ∷ 1 ∷ 2 ∷ [])
+    ++ (3 ∷ 1 ∷ 2 ∷ 6 ∷ 5 ∷ 4 ∷ 0 ∷ [])
+    ++ (4 ∷ 6 ∷ 2 ∷ 1 ∷ 3 ∷ 0 ∷ 5 ∷ [])) ≡ table1
+unfolding bookOf directory
+table1-written = refl

@@ -1,0 +1,138 @@
+#!/usr/bin/env python3
+"""Writes the stored input and expected output of crates/sheet_cases.
+
+    tests/make_sheet_cases.py            writes crates/sheet_cases/stdin and stdout
+    tests/make_sheet_cases.py --check    says whether they are what it would write
+
+Each input is a book, built byte by byte from document 01, with a matching after it. The expected sheets are literals: those that
+document 01 gives, and others that follow from it by hand, as said beside them. No code of the library is used.
+"""
+import pathlib
+import sys
+
+HERE = pathlib.Path(__file__).resolve().parent.parent / "crates" / "sheet_cases"
+
+# Table 1 of document 000: students (men), then mentors (women).
+TABLE_1 = """
+0652413 6145023 6031542 3201465 1203456 6103542 2506431
+2164530 0435261 2504316 6123405 4605312 3126540 4621305
+"""
+
+
+def book(n, entries):
+    out = [1, n]
+    for k in range(2 * n):
+        offset = 2 + 8 * n + n * k
+        out += [offset % 256, offset // 256, n % 256, n // 256]
+    return out + entries
+
+
+def digits(text):
+    return [int(c) for c in text if c.isdigit()]
+
+
+def put(b, changes):
+    """The bytes with others at some places."""
+    b = list(b)
+    for place, byte in changes.items():
+        b[place] = byte
+    return b
+
+
+def firsts(n):
+    """Person i of either side ranks i, i + 1, ... round to i − 1. So i and i are each other's first: every pair is fixed, and nothing else
+    is stable."""
+    return book(n, [(k + j) % n for k in range(2 * n) for j in range(n)])
+
+
+def rounds(n):
+    """Student i ranks i, i + 1, ... and mentor j ranks j + 1, j + 2, ..., j, each round. The mentor at place k of a student has him at place
+    n − 1 − k, so the stable matchings are those in which all have place k, for k from 0 to n − 1. Each goes to the next by one rotation of
+    all n pairs: n − 1 rotations, and every repair has distance n."""
+    students = [(i + j) % n for i in range(n) for j in range(n)]
+    return book(n, students + [(w + 1 + j) % n for w in range(n) for j in range(n)])
+
+
+def shift(n, k):
+    """The matching in which every student has the mentor at place k of `rounds`."""
+    return [(i + k) % n for i in range(n)]
+
+
+T = book(7, digits(TABLE_1))
+M = [4, 5, 6, 3, 1, 2, 0]
+ONE = book(1, [0, 0])
+TWO = book(2, [0, 1, 1, 0, 1, 0, 0, 1])
+ALIKE = book(2, [0, 1, 0, 1, 0, 1, 0, 1])
+R3, R64, F64 = rounds(3), rounds(64), firsts(64)
+
+TABLE_1_SHEET = ["7 6 3", "0 4 U 2", "1 5 U 4", "2 6 D 2", "3 3 D 4", "4 1 D 2", "5 2 U 2", "6 0 D 2"]
+
+# (what is tried, bytes, lines)
+CASES = [
+    # Sheets that document 01 gives
+    ("n = 0", book(0, []), ["0 0 0"]),
+    ("n = 1", ONE + [0], ["1 0 0", "0 0 F 0"]),
+    ("two by two, 0 1", TWO + [0, 1], ["2 1 1", "0 0 D 2", "1 1 D 2"]),
+    ("two by two, 1 0", TWO + [1, 0], ["2 1 1", "0 1 U 2", "1 0 U 2"]),
+    ("the other two by two, 1 0", ALIKE + [1, 0], ["refused 10"]),
+    ("Table 1", T + M, TABLE_1_SHEET),
+    # All rank 0 above 1: the stable matching is 0 1 alone
+    ("the other two by two, 0 1", ALIKE + [0, 1], ["2 0 0", "0 0 F 0", "1 1 F 0"]),
+    # Down alone, both as near and so up, up alone
+    ("three rounds, place 0", R3 + shift(3, 0), ["3 2 2", "0 0 D 3", "1 1 D 3", "2 2 D 3"]),
+    ("three rounds, place 1", R3 + shift(3, 1), ["3 2 2", "0 1 U 3", "1 2 U 3", "2 0 U 3"]),
+    ("three rounds, place 2", R3 + shift(3, 2), ["3 2 2", "0 2 U 3", "1 0 U 3", "2 1 U 3"]),
+    # The largest n: two digits in every field but the letter
+    ("64 firsts", F64 + shift(64, 0), ["64 0 0"] + [f"{i} {i} F 0" for i in range(64)]),
+    ("64 rounds, place 0", R64 + shift(64, 0), ["64 63 63"] + [f"{i} {i} D 64" for i in range(64)]),
+    ("64 rounds, place 40", R64 + shift(64, 40), ["64 63 63"] + [f"{i} {(i + 40) % 64} U 64" for i in range(64)]),
+    # 1 short
+    ("no bytes", [], ["refused 1"]),
+    ("one byte", [1], ["refused 1"]),
+    ("Table 1, 155 bytes", T[:155], ["refused 1"]),
+    # 2 edition, 3 crowd
+    ("edition 0", put(T + M, {0: 0}), ["refused 2"]),
+    ("edition 2", put(T + M, {0: 2}), ["refused 2"]),
+    ("n = 65", put(T + M, {1: 65}), ["refused 3"]),
+    # 5 directory, 6 stranger, 7 repeat
+    ("first offset one more", put(T + M, {2: 59}), ["refused 5"]),
+    ("last entry is 7", put(T + M, {155: 7}), ["refused 6"]),
+    ("last entry is the one before", put(T + M, {155: 0}), ["refused 7"]),
+    # 8 length; bytes past the book are the matching, so 4 does not occur
+    ("Table 1 with no matching", T, ["refused 8"]),
+    ("Table 1, one byte of the matching short", T + M[:6], ["refused 8"]),
+    ("Table 1, one byte more", T + M + [0], ["refused 8"]),
+    ("n = 0, one byte more", book(0, []) + [0], ["refused 8"]),
+    ("n = 64, one byte more: 8,771 bytes", R64 + shift(64, 0) + [0], ["refused 8"]),
+    # 9 clash
+    ("mentor 7", T + put(M, {0: 7}), ["refused 9"]),
+    ("mentor 6 twice", T + put(M, {6: 6}), ["refused 9"]),
+    ("n = 1, mentor 255", ONE + [255], ["refused 9"]),
+    # 10 unstable: mentor 0 ranks student 2 first, and he ranks her above mentor 2
+    ("Table 1, 0 1 2 3 4 5 6", T + [0, 1, 2, 3, 4, 5, 6], ["refused 10"]),
+    # Two rules broken: the order of the checks decides
+    ("2 before 3", put(T + M, {0: 2, 1: 65}), ["refused 2"]),
+    ("5 before 6", put(T + M, {54: 148, 58: 7}), ["refused 5"]),
+    ("7 before 8", put(T, {59: 0}), ["refused 7"]),
+    ("7 before 9", put(T + M, {59: 0, 162: 4}), ["refused 7"]),
+    ("8 before 9", T + [9] + M, ["refused 8"]),
+    ("9 before 10", T + [0, 1, 2, 3, 4, 5, 5], ["refused 9"]),
+]
+
+
+def main():
+    stdin = b"".join(bytes([len(b) % 256, len(b) // 256] + b) for _, b, _ in CASES)
+    stdout = "".join(line + "\n" for _, _, lines in CASES for line in lines).encode()
+    if len(stdin) > 65536:
+        sys.exit(f"{len(stdin)} bytes of input: the program takes 65536")
+    files = {HERE / "stdin": stdin, HERE / "stdout": stdout}
+    if sys.argv[1:] == ["--check"]:
+        bad = [str(p) for p, text in files.items() if p.read_bytes() != text]
+        sys.exit(f"not as written by this script: {', '.join(bad)}" if bad else 0)
+    for path, text in files.items():
+        path.write_bytes(text)
+    print(f"{len(CASES)} cases, {len(stdin)} bytes of input")
+
+
+if __name__ == "__main__":
+    main()
