@@ -7,7 +7,7 @@ use independent::reply::Reply;
 use independent::{calls, samples};
 
 pub const SIZES: [usize; 4] = [8, 16, 32, 64];
-pub const KINDS: [&str; 3] = ["random", "cyclic", "xor"];
+pub const KINDS: [&str; 4] = ["random", "cyclic", "xor", "hardest"];
 
 /// How many random books are averaged.
 const RANDOM_BOOKS: u64 = 16;
@@ -31,7 +31,7 @@ impl Question {
     }
 }
 
-/// The questions of a kind of lists: 16 random books, the cyclic lists, the xor lists.
+/// The questions of a kind of lists: 16 random books, or the one book of the kind.
 pub fn questions(kind: &str, n: usize) -> Vec<Question> {
     match kind {
         "random" => {
@@ -39,7 +39,8 @@ pub fn questions(kind: &str, n: usize) -> Vec<Question> {
         }
         "cyclic" => vec![Question::new(n, &samples::cyclic(n))],
         "xor" => vec![Question::new(n, &samples::xor(n))],
-        _ => panic!("lists are random, cyclic or xor"),
+        "hardest" => vec![Question::new(n, &samples::hardest(n))],
+        _ => panic!("lists are random, cyclic, xor or hardest"),
     }
 }
 

@@ -4,8 +4,8 @@
 //!     bench CALL LISTS N SIDE ROUNDS           that many rounds of one call by one side (archive or independent), for
 //!                                              a tool that counts instructions; prints the calls in a round
 //!
-//! CALL is check_book, check_matching, student_best, rotations, repair, grade or sheet; LISTS is random, cyclic or xor.
-//! A round asks every question once: 16 random books or one other, and for a repair every pair of its matching.
+//! CALL is check_book, check_matching, student_best, rotations, repair, grade or sheet; LISTS is random, cyclic, xor or
+//! hardest. A round asks every question once: 16 random books or one other, and for a repair every pair of its matching.
 
 mod cases;
 

@@ -51,6 +51,15 @@ pub fn xor(n: usize) -> Vec<u8> {
     opposed(n, |i, w| i ^ w)
 }
 
+/// Lists that take the most proposals there can be, n(n - 1) + 1: man i lists i, i + 1, and so on round among the women
+/// below n - 1, man n - 1 as man 0, and each ends with woman n - 1; woman w lists w + 1, w + 2, and so on round all men.
+/// One man ends at the last place of his list and each other at the last but one. n is at least 2.
+pub fn hardest(n: usize) -> Vec<u8> {
+    let men = (0..n).flat_map(|i| (0..n - 1).map(move |j| (i % (n - 1) + j) % (n - 1)).chain([n - 1]));
+    let women = (0..n).flat_map(|w| (0..n).map(move |j| (w + 1 + j) % n));
+    men.chain(women).map(|person| person as u8).collect()
+}
+
 /// The cyclic or the xor lists with the levels in random order.
 pub fn latin(n: usize, random: &mut Random) -> Vec<u8> {
     let levels = random.order(n);

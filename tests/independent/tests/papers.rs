@@ -146,3 +146,15 @@ fn most_rotations() {
     assert!(out.chunks(5).all(|r| r[0] == 2));
     assert_eq!(calls::rotations(&book, &mut out[1..]), refused(14, 0));
 }
+
+/// The most proposals there can be (Knuth 1976): n(n - 1) + 1, so the men's places add up to that less n.
+#[test]
+fn hardest_lists() {
+    for n in [2, 3, 8, 64] {
+        let lists = samples::hardest(n);
+        let mut best = vec![0; n];
+        assert_eq!(calls::student_best(&samples::book(n, &lists), &mut best).number, 0);
+        let place = |i: usize| lists[i * n..][..n].iter().position(|&w| w == best[i]).unwrap();
+        assert_eq!((0..n).map(place).sum::<usize>(), (n - 1) * (n - 1));
+    }
+}
