@@ -5,7 +5,6 @@ use mathlib.Core.List.{List}
 use lib.ListN.{length, getD}
 use Rattle.laws.specs.Onto.{Into}
 use Rattle.laws.specs.Table.{Filled}
-use Rattle.laws.specs.Stores.{Stores}
 use Rattle.instance.specs.declared.record.Instance.{Instance}
 use Rattle.instance.specs.declared.record.Loaded.{Loaded}
 use Rattle.instance.specs.Verdict.{Verdict, fine, refused, verdictOf}
@@ -14,23 +13,23 @@ use Rattle.instance.specs.Check.{checkBook}
 use Rattle.instance.specs.WellFormed.{WellFormed}
 use Rattle.instance.specs.Place.{place}
 
--- The tables of one side of n persons, whose lists are those from number `from` on, with `rows` of the persons done. Person i has row i,
--- of n cells
-pub record Rows (b : List ℕ) (n from rows : ℕ) (lengths lists ranks : List ℕ) : Type 0 where
-  -- how long the list of person i is
-  pub length-at : {i : ℕ} → i < rows → getD lengths i 0 ≡ listLength b (from + i)
-  pub length-past : {p : ℕ} → rows ≤ p → getD lengths p 0 ≡ 0
-  -- entry j of that list, and the place of w on it
-  pub lists-done : Filled rows n (λ i j. entry b (from + i) j) lists
-  pub ranks-done : Filled rows n (λ i w. place b (from + i) w) ranks
-  -- each table has room for the largest n
-  pub lengths-long : length lengths ≡ largest
-  pub lists-long : length lists ≡ largest * largest
-  pub ranks-long : length ranks ≡ largest * largest
+-- The lengths of the lists of one side, which are those from number `from` on, with `rows` of the persons done, and zeros past them
+pub record Lengths (b : List ℕ) (from rows : ℕ) (lengths : List ℕ) : Type 0 where
+  pub at : {i : ℕ} → i < rows → getD lengths i 0 ≡ listLength b (from + i)
+  pub past : {p : ℕ} → rows ≤ p → getD lengths p 0 ≡ 0
+  pub long : length lengths ≡ largest
 
--- with all of them done
-abbrev pub SideTables : List ℕ → ℕ → ℕ → List ℕ → List ℕ → List ℕ → Type 0
-SideTables b n from lengths lists ranks = Rows b n from n lengths lists ranks
+-- A table of one side with `rows` of its rows of n cells done: cell j of row i is what f gives for list from + i and j. It has room for the
+-- largest n
+pub record Rows (n : ℕ) (f : ℕ → ℕ → ℕ) (from rows : ℕ) (table : List ℕ) : Type 0 where
+  pub filled : Filled rows n (λ i j. f (from + i) j) table
+  pub long : length table ≡ largest * largest
+
+-- The tables of one side of n persons: how long each list is, entry j of list i, and the place of w on it
+pub record SideTables (b : List ℕ) (n from : ℕ) (lengths lists ranks : List ℕ) : Type 0 where
+  pub lengths-done : Lengths b from n lengths
+  pub lists-done : Rows n (entry b) from n lists
+  pub ranks-done : Rows n (place b) from n ranks
 
 -- A number where nothing is refused, and 0 otherwise
 abbrev pub numberIf : Verdict → ℕ → ℕ
@@ -48,17 +47,13 @@ pub record Recorded (b : List ℕ) (r : Loaded) : Type 0 where
   pub checked : verdictOf (r .checked) ≡ checkBook b
   pub tables : Tables b (numberIf (checkBook b) (people b)) (r .instance)
 
--- What the function that fills one row needs: entries of the list l that are different numbers below its length, and room from index `at` on
-pub record Row (l : List ℕ) (at : ℕ) (lists ranks : List ℕ) : Type 0 where
+-- What the functions that fill one row of a table need: entries of the list l that are different numbers below its length, and room from
+-- index `at` on
+pub record Row (l : List ℕ) (at : ℕ) (table : List ℕ) : Type 0 where
   pub names : Into (length l) (length l) (byte l)
   pub few : length l ≤ largest
-  pub lists-room : at + length l ≤ length lists
-  pub ranks-room : at + length l ≤ length ranks
-
--- what it has done after m entries: entry j stands at cell j of the row of lists, and j at the cell of the row of ranks that the entry names
-pub record RowFilled (l : List ℕ) (at m : ℕ) (lists₀ ranks₀ lists ranks : List ℕ) : Type 0 where
-  pub listed : Stores at m (λ j. j) (byte l) lists₀ lists
-  pub ranked : Stores at m (byte l) (λ j. j) ranks₀ ranks
+  pub room : at + length l ≤ largest * largest
+  pub long : length table ≡ largest * largest
 
 -- What the functions that fill the tables need of a book: it is well formed, of n men and n women, or n is 0
 pub record Source (b : List ℕ) (n : ℕ) : Type 0 where
@@ -66,8 +61,7 @@ pub record Source (b : List ℕ) (n : ℕ) : Type 0 where
   pub number : 0 < n → n ≡ people b
   pub few : n ≤ largest
 
--- and for one side: tables of zeros
-pub record Blank (b : List ℕ) (n from : ℕ) (lengths lists ranks : List ℕ) : Type 0 where
+-- and where the lists of a side begin
+pub record Side (b : List ℕ) (n from : ℕ) : Type 0 where
   pub source : Source b n
-  pub side : from ≤ n
-  pub zeros : Rows b n from 0 lengths lists ranks
+  pub start : from ≤ n

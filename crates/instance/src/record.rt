@@ -1,11 +1,17 @@
 // The record of an instance: n, and for each side the lengths of the lists, the lists, and the places on them.
 use crate::Checked;
 use crate::book::check;
+use crate::field::length_of;
 use crate::field::list_of;
 use crate::field::wide;
-ghost use Prim.Native.Nat.{_+_, _*_, _<_};
+ghost use mathlib.Core.Path.{_≡_};
 ghost use lib.ListN.{length};
-ghost use Rattle.instance.specs.Record.{SideTables, Tables, Recorded, Row, RowFilled, Source, Blank};
+ghost use Rattle.laws.specs.Stores.{Stores};
+ghost use Rattle.instance.specs.Verdict.{verdictOf};
+ghost use Rattle.instance.specs.Format.{byte, people, entry};
+ghost use Rattle.instance.specs.Check.{checkBook};
+ghost use Rattle.instance.specs.Place.{place};
+ghost use Rattle.instance.specs.Record.{numberIf, Recorded, Side, Lengths, Rows, Row};
 
 // A row of a table has n cells. Person i has row i: at cell j of `lists` stands entry j of the list, at cell w of `ranks`
 // the place of w on it.
@@ -31,94 +37,106 @@ impl Instance {
 
     pub const CELLS: usize = Instance::LARGEST * Instance::LARGEST;
 
-    // The record of a book that is well formed, or one with n = 0 and zeros alone.
+    // The record of a book that is well formed, or one with n = 0 and zeros alone. Its tables are filled where they lie.
     pub fn load(book: &[u8]) -> Loaded
         ensures { λ r. ⌜ Recorded (now (book .entry)) r ⌝ }
     {
         let checked = check(book);
-        let Checked::Fine = checked else {
-            return Loaded {
-                checked,
-                instance: tables(book, 0),
-            };
-        };
-        let n = wide(book[1]);
-        Loaded {
+        let n = number(checked, book);
+        let mut loaded = Loaded {
             checked,
-            instance: tables(book, n),
-        }
+            instance: Instance {
+                n,
+                man_lengths: [0u16; Instance::LARGEST],
+                man_lists: [0u16; Instance::CELLS],
+                man_ranks: [0u16; Instance::CELLS],
+                woman_lengths: [0u16; Instance::LARGEST],
+                woman_lists: [0u16; Instance::CELLS],
+                woman_ranks: [0u16; Instance::CELLS],
+            },
+        };
+        fill_lengths(book, n, 0, &mut loaded.instance.man_lengths);
+        fill_lists(book, n, 0, &mut loaded.instance.man_lists);
+        fill_ranks(book, n, 0, &mut loaded.instance.man_ranks);
+        fill_lengths(book, n, n, &mut loaded.instance.woman_lengths);
+        fill_lists(book, n, n, &mut loaded.instance.woman_lists);
+        fill_ranks(book, n, n, &mut loaded.instance.woman_ranks);
+        loaded
     }
 }
 
-// Entry j of a list goes to cell j of the row of `lists` that starts at `at`, and j to the cell of the row of `ranks` that the entry names.
-fn fill_row(list: &[u8], at: usize, lists: &mut [u16], ranks: &mut [u16])
-    requires { ⌜ Row (now list) at (now lists) (now ranks) ⌝ }
-    ensures { λ r. ⌜ RowFilled (now (list .entry)) at (length (now (list .entry))) (now (lists .entry)) (now (ranks .entry)) (now (lists .exit)) (now (ranks .exit)) ⌝ }
+// n of a book that is well formed, and 0 where it is refused.
+fn number(checked: Checked, book: &[u8]) -> usize
+    requires { ⌜ verdictOf checked ≡ checkBook (now book) ⌝ }
+    ensures { λ r. ⌜ r ≡ numberIf (checkBook (now (book .entry))) (people (now (book .entry))) ⌝ }
+{
+    let Checked::Fine = checked else {
+        return 0;
+    };
+    wide(book[1])
+}
+
+// How long the lists of a side are, which are those from number `from` on.
+fn fill_lengths(book: &[u8], n: usize, from: usize, lengths: &mut [u16; Instance::LARGEST])
+    requires { ⌜ Side (now book) n from ⌝ }
+    requires { ⌜ Lengths (now book) from 0 (now lengths) ⌝ }
+    ensures { λ _. ⌜ Lengths (now (book .entry)) from n (now (lengths .exit)) ⌝ }
+{
+    let mut i = 0;
+    while i < n {
+        lengths[i] = length_of(book, from + i) as u16;
+        i += 1;
+    }
+}
+
+// Entry j of a list goes to cell j of the row that starts at `at`.
+fn copy_row(list: &[u8], at: usize, lists: &mut [u16; Instance::CELLS])
+    requires { ⌜ Row (now list) at (now lists) ⌝ }
+    ensures { λ _. ⌜ Stores at (length (now (list .entry))) (λ j. j) (byte (now (list .entry))) (now (lists .entry)) (now (lists .exit)) ⌝ }
 {
     let mut j = 0;
     while j < list.len() {
         let e = wide(list[j]);
         lists[at + j] = e as u16;
+        j += 1;
+    }
+}
+
+// The place of an entry goes to the cell of the row that the entry names.
+fn rank_row(list: &[u8], at: usize, ranks: &mut [u16; Instance::CELLS])
+    requires { ⌜ Row (now list) at (now ranks) ⌝ }
+    ensures { λ _. ⌜ Stores at (length (now (list .entry))) (byte (now (list .entry))) (λ j. j) (now (ranks .entry)) (now (ranks .exit)) ⌝ }
+{
+    let mut j = 0;
+    while j < list.len() {
+        let e = wide(list[j]);
         ranks[at + e] = j as u16;
         j += 1;
     }
 }
 
-// The tables of the side whose lists are those from number `from` on.
-fn fill_side(
-    book: &[u8],
-    n: usize,
-    from: usize,
-    lengths: &mut [u16],
-    lists: &mut [u16],
-    ranks: &mut [u16],
-)
-    requires { ⌜ Blank (now book) n from (now lengths) (now lists) (now ranks) ⌝ }
-    ensures { λ r. ⌜ SideTables (now (book .entry)) n from (now (lengths .exit)) (now (lists .exit)) (now (ranks .exit)) ⌝ }
+// The lists of a side, row by row.
+fn fill_lists(book: &[u8], n: usize, from: usize, lists: &mut [u16; Instance::CELLS])
+    requires { ⌜ Side (now book) n from ⌝ }
+    requires { ⌜ Rows n (entry (now book)) from 0 (now lists) ⌝ }
+    ensures { λ _. ⌜ Rows n (entry (now (book .entry))) from n (now (lists .exit)) ⌝ }
 {
     let mut i = 0;
     while i < n {
-        let list = list_of(book, from + i);
-        lengths[i] = list.len() as u16;
-        fill_row(list, i * n, lists, ranks);
+        copy_row(list_of(book, from + i), i * n, lists);
         i += 1;
     }
 }
 
-// The record of n men and n women.
-fn tables(book: &[u8], n: usize) -> Instance
-    requires { ⌜ Source (now book) n ⌝ }
-    ensures { λ r. ⌜ Tables (now (book .entry)) n r ⌝ }
+// The ranks of a side, row by row.
+fn fill_ranks(book: &[u8], n: usize, from: usize, ranks: &mut [u16; Instance::CELLS])
+    requires { ⌜ Side (now book) n from ⌝ }
+    requires { ⌜ Rows n (place (now book)) from 0 (now ranks) ⌝ }
+    ensures { λ _. ⌜ Rows n (place (now (book .entry))) from n (now (ranks .exit)) ⌝ }
 {
-    let mut man_lengths = [0u16; Instance::LARGEST];
-    let mut man_lists = [0u16; Instance::CELLS];
-    let mut man_ranks = [0u16; Instance::CELLS];
-    fill_side(
-        book,
-        n,
-        0,
-        &mut man_lengths[..],
-        &mut man_lists[..],
-        &mut man_ranks[..],
-    );
-    let mut woman_lengths = [0u16; Instance::LARGEST];
-    let mut woman_lists = [0u16; Instance::CELLS];
-    let mut woman_ranks = [0u16; Instance::CELLS];
-    fill_side(
-        book,
-        n,
-        n,
-        &mut woman_lengths[..],
-        &mut woman_lists[..],
-        &mut woman_ranks[..],
-    );
-    Instance {
-        n,
-        man_lengths,
-        man_lists,
-        man_ranks,
-        woman_lengths,
-        woman_lists,
-        woman_ranks,
+    let mut i = 0;
+    while i < n {
+        rank_row(list_of(book, from + i), i * n, ranks);
+        i += 1;
     }
 }

@@ -28,7 +28,7 @@ module _ {b lengths lists ranks : List ℕ} {n from : ℕ} (W : WellFormed b) (e
   square = let f : n ≤ largest = omega (arith, W .few) in mul-le-mul f f
 
   lens-at : {i : ℕ} → i < n → vec lengths i ≡ listLength b (from + i)
-  lens-at u = S .length-at u
+  lens-at u = S .lengths-done .at u
 
   pub lens-full : {i : ℕ} → i < n → vec lengths i ≡ n
   lens-full u = length-full source h S u
@@ -39,29 +39,29 @@ module _ {b lengths lists ranks : List ℕ} {n from : ℕ} (W : WellFormed b) (e
       record {
         size = e;
         len = λ u. lens-at u;
-        at = λ {i} {k} u l. S .lists-done .cells u (omega (arith, lens-full u));
+        at = λ {i} {k} u l. S .lists-done .filled .cells u (omega (arith, lens-full u));
         place = λ {i} {w} u v.
             ap (first (λ k. eqb (cell lists n i k) w)) (lens-at u)
-            ∙ first-cong (λ k (l : k < listLength b (from + i)). ap (λ (x : ℕ). eqb x w) (S .lists-done .cells u (omega (arith, lens-full u, lens-at u))));
+            ∙ first-cong (λ k (l : k < listLength b (from + i)). ap (λ (x : ℕ). eqb x w) (S .lists-done .filled .cells u (omega (arith, lens-full u, lens-at u))));
       }
 
   -- and are stored as the kernel needs them
   pub side-stored : Stored n n lengths lists
   side-stored =
       record {
-        lengths = omega (arith, S .lengths-long, W .few);
+        lengths = omega (arith, S .lengths-done .long, W .few);
         short = λ u. omega (arith, lens-full u);
-        rows = omega (arith, S .lists-long, square);
+        rows = omega (arith, S .lists-done .long, square);
         small = λ {i} {k} u l. list-lt source h S u (omega (arith, lens-full u));
       }
 
   -- the rank table agrees with the side
   pub side-agrees : Agrees (sideOf n n lengths lists) n ranks
   unfolding place
-  side-agrees = record { rank = λ {i} {w} u v. S .ranks-done .cells u v ∙ sym (side-alike .place u v) }
+  side-agrees = record { rank = λ {i} {w} u v. S .ranks-done .filled .cells u v ∙ sym (side-alike .place u v) }
 
   pub side-ranks : n * n ≤ length ranks
-  side-ranks = omega (arith, S .ranks-long, square)
+  side-ranks = omega (arith, S .ranks-done .long, square)
 
 -- The market of a record's tables, the men proposing
 abbrev pub tableMarket : ℕ → Instance → Market

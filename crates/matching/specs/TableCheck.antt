@@ -35,15 +35,15 @@ module _ {b : List ℕ} {r : Instance} (T : Tables b (people b) r) where
   -- what the tables hold: the students' lists, and the places on both sides' lists
   man-list : {i k : ℕ} → i < people b → k < people b → cell (r .«man_lists») (people b) i k ≡ manChoice b i k
   unfolding market
-  man-list u v = T .men .lists-done .cells u v
+  man-list u v = T .men .lists-done .filled .cells u v
 
   man-rank : {i w : ℕ} → i < people b → w < people b → cell (r .«man_ranks») (people b) i w ≡ manRank b i w
   unfolding market place
-  man-rank u v = T .men .ranks-done .cells u v
+  man-rank u v = T .men .ranks-done .filled .cells u v
 
   woman-rank : {i w : ℕ} → i < people b → w < people b → cell (r .«woman_ranks») (people b) w i ≡ womanRank b w i
   unfolding market place
-  woman-rank u v = T .women .ranks-done .cells v u
+  woman-rank u v = T .women .ranks-done .filled .cells v u
 
 -- what the function that makes the places asks is there
 pub places-fillable : {b m : List ℕ} {r : Instance} → MatchingIn b m → Tables b (people b) r → {men women : List ℕ} → length men ≡ largest → length women ≡ largest
@@ -52,8 +52,8 @@ places-fillable A T l k =
     record {
       names = A .names;
       long = omega (arith, A .long);
-      man-room = omega (arith, T .men .ranks-long, square (A .formed));
-      woman-room = omega (arith, T .women .ranks-long, square (A .formed));
+      man-room = omega (arith, T .men .ranks-done .long, square (A .formed));
+      woman-room = omega (arith, T .women .ranks-done .long, square (A .formed));
       men-room = omega (arith, A .formed .few);
       women-room = omega (arith, A .formed .few);
     }
@@ -115,8 +115,8 @@ module _ {b m : List ℕ} {r : Instance} (A : MatchingIn b m) (T : Tables b (peo
   pub places-searchable : length women₀ ≡ largest → Searchable (people b) (r .«man_lists») (r .«woman_ranks») women
   places-searchable l =
       record {
-        lists-long = omega (arith, T .men .lists-long, square (A .formed));
-        ranks-long = omega (arith, T .women .ranks-long, square (A .formed));
+        lists-long = omega (arith, T .men .lists-done .long, square (A .formed));
+        ranks-long = omega (arith, T .women .ranks-done .long, square (A .formed));
         women-long = omega (arith, F .hers .long, A .formed .few);
         names = λ u v. omega (arith, man-list T u v, rank-choice (A .formed) u v .0);
       }

@@ -1,62 +1,55 @@
--- `instance::record::Instance::load` meets its contract: the tables of a book in which nothing is refused, and else zeros. Assumes nothing.
-use mathlib.Core.Path.{_≡_, sym, _∙_, ap}
+-- `instance::record::Instance::load` meets its contract: each table is filled from zeros. Assumes nothing.
+use mathlib.Core.Path.{refl}
 use native.Mathlib.Omega.{arith}
+use Rattle.instance.specs.Ranks.{number-source}
+use Rattle.instance.specs.Laws.Fills.{lengths-start, rows-start, recorded}
 use borrow.Author.Needs.{needs}
-use Rattle.instance.specs.Verdict.{fine, verdictOf}
-use Rattle.instance.specs.Check.{checkBook}
-use Rattle.instance.specs.Laws.Stages.{fine-passed}
-use Rattle.instance.specs.WellFormed.{fine-well-formed}
-use Rattle.instance.specs.Laws.Fills.{recorded-fine, recorded-refused}
 use Rattle.instance.proofs.record.Instance.load.Statement.{statement}
 use Rattle.instance.proofs.record.Instance.load.Tie as tie
 
 check-requires : tie.Need-check-requires
 check-requires c κs = search needs
 
-enum-told : tie.Need-enum-told
-enum-told c = search needs
+number-requires : tie.Need-number-requires
+number-requires c κs = search needs
 
-enum-told-2 : tie.Need-enum-told-2
-enum-told-2 c = search needs
+fill-lengths-requires : tie.Need-fill-lengths-requires
+fill-lengths-requires c κs = (record { source = number-source (c .before .number .ensures); start = omega arith }, lengths-start _ _)
 
-tables-requires : tie.Need-tables-requires
-tables-requires c κs = search needs
+fill-lists-requires : tie.Need-fill-lists-requires
+fill-lists-requires c κs = (record { source = number-source (c .before .before .before .number .ensures); start = omega arith }, rows-start _ _ _)
+
+fill-ranks-requires : tie.Need-fill-ranks-requires
+fill-ranks-requires c κs = (record { source = number-source (c .before .before .before .before .before .number .ensures); start = omega arith }, rows-start _ _ _)
+
+fill-lengths-requires-2 : tie.Need-fill-lengths-requires-2
+fill-lengths-requires-2 c κs = (record { source = number-source (c .before .before .before .before .before .before .before .number .ensures); start = omega arith }, lengths-start _ _)
+
+fill-lists-requires-2 : tie.Need-fill-lists-requires-2
+fill-lists-requires-2 c κs = (record { source = number-source (c .before .before .before .before .before .before .before .before .before .number .ensures); start = omega arith }, rows-start _ _ _)
+
+fill-ranks-requires-2 : tie.Need-fill-ranks-requires-2
+fill-ranks-requires-2 c κs = (record { source = number-source (c .before .before .before .before .before .before .before .before .before .before .before .number .ensures); start = omega arith }, rows-start _ _ _)
 
 returns : tie.Need-returns
-returns c = recorded-refused (c .before .before .before .check .ensures) (ap verdictOf (c .before .enum-told2 .given .1)) (c .tables .ensures)
-
--- the check found nothing
-passed : (c : tie.After-enum-told) → checkBook (c .before .before .before .before .args .book .now) ≡ fine
-passed c = sym (c .before .before .check .ensures) ∙ ap verdictOf (c .enum-told .given .1)
-
-shared-slice-read-wide : tie.Need-shared-slice-read-wide
-shared-slice-read-wide c = fine-passed _ (passed (c .before)) .opened .long
-
-wide-requires : tie.Need-wide-requires
-wide-requires c κs = search needs
-
-tables-requires-2 : tie.Need-tables-requires-2
-tables-requires-2 c κs =
-    record {
-      formed = λ h. fine-well-formed _ .0 (passed (c .before .before));
-      number = λ h. c .wide .ensures .0;
-      few = omega (arith, fine-passed _ (passed (c .before .before)) .opened .few);
-    }
-
-returns-2 : tie.Need-returns-2
-returns-2 c =
-    recorded-fine (c .before .before .before .before .before .check .ensures) (ap verdictOf (c .before .before .before .enum-told .given .1)) (c .before .wide .ensures .0) (c .tables2 .ensures)
+returns c =
+    recorded (c .before .before .before .before .before .before .before .before .before .before .before .before .before .check .ensures) (c .before .before .before .before .before .before .before .before .before .before .before .before .number .ensures)
+    (record {
+      number = refl;
+      men = record { lengths-done = c .before .before .before .before .before .before .before .before .before .before .fill-lengths .ensures; lists-done = c .before .before .before .before .before .before .before .before .fill-lists .ensures; ranks-done = c .before .before .before .before .before .before .fill-ranks .ensures };
+      women = record { lengths-done = c .before .before .before .before .fill-lengths2 .ensures; lists-done = c .before .before .fill-lists2 .ensures; ranks-done = c .fill-ranks2 .ensures };
+    })
 
 pub load-spec : {M : Type 1} → statement M
 load-spec =
     tie.close
     (tie.spec
     check-requires
-    enum-told
-    enum-told-2
-    tables-requires
-    returns
-    shared-slice-read-wide
-    wide-requires
-    tables-requires-2
-    returns-2)
+    number-requires
+    fill-lengths-requires
+    fill-lists-requires
+    fill-ranks-requires
+    fill-lengths-requires-2
+    fill-lists-requires-2
+    fill-ranks-requires-2
+    returns)
