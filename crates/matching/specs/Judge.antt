@@ -1,15 +1,14 @@
--- What `judge` answers: the verdict on a matching, the record of the book, and the places of both sides. Assumes nothing.
+-- What `judge` answers: the verdict on a matching, and the places of both sides. Assumes nothing.
 use Prim.Native.Nat.{ℕ, _≤_, _<_}
 use mathlib.Core.Path.{_≡_}
 use mathlib.Core.List.{List}
 use lib.ListN.{length, replicate}
 use Rattle.laws.specs.Values.{vec}
 use Rattle.instance.specs.declared.Checked.{Checked}
-use Rattle.instance.specs.declared.record.Instance.{Instance}
+use Rattle.instance.specs.declared.record.Loaded.{Loaded}
 use Rattle.instance.specs.Verdict.{verdictOf}
 use Rattle.instance.specs.Format.{largest, people}
-use Rattle.instance.specs.Check.{checkBook}
-use Rattle.instance.specs.Record.{Tables, numberIf}
+use Rattle.instance.specs.Record.{Recorded, numberIf}
 use Rattle.stable_theory.specs.Stable.Holder.{mirror}
 use Rattle.matching.specs.declared.Judged.{Judged}
 use Rattle.matching.specs.BookMarket.{market}
@@ -21,16 +20,23 @@ pub record Entries (n : ℕ) (f : ℕ → ℕ) (l : List ℕ) : Type 0 where
   pub past : {i : ℕ} → n ≤ i → vec l i ≡ 0
   pub long : length l ≡ largest
 
--- The verdict, the record, and the places of the students and the mentors, none on a refusal
+-- The verdict, and the places of the students and the mentors, none on a refusal
 pub record JudgedIs (b m : List ℕ) (r : Judged) : Type 0 where
   pub checked : verdictOf (r .checked) ≡ checkMatching b m
-  pub tables : Tables b (numberIf (checkBook b) (people b)) (r .instance)
   pub men : Entries (numberIf (checkMatching b m) (people b)) (vectorOf b m) (r .places .men)
   pub women : Entries (numberIf (checkMatching b m) (people b)) (mirror (market b) (vectorOf b m)) (r .places .women)
 
--- An answer and a record, with zeros for the places
-pub record Unplaced (checked : Checked) (instance : Instance) (r : Judged) : Type 0 where
+-- What is made of some book
+pub record FromBook (L : Loaded) : Type 0 where
+  pub book : List ℕ
+  pub recorded : Recorded book L
+
+-- The answer for each book of which L is made
+abbrev pub Judges : Loaded → List ℕ → Judged → Type 0
+Judges L m r = (b : List ℕ) → Recorded b L → JudgedIs b m r
+
+-- An answer, with zeros for the places
+pub record Unplaced (checked : Checked) (r : Judged) : Type 0 where
   pub answer : r .checked ≡ checked
-  pub tables : r .instance ≡ instance
   pub men : r .places .men ≡ replicate largest 0
   pub women : r .places .women ≡ replicate largest 0

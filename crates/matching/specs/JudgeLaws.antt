@@ -47,11 +47,10 @@ module _ {n : ℕ} (m : List ℕ) where
 module _ {b : List ℕ} (m : List ℕ) {L : Loaded} (R : Recorded b L) where
   -- a refusal is the answer, with no places
   judged-refused : {answer : Checked} {r : Judged} {number place second : ℕ} →
-      Unplaced answer (L .instance) r → verdictOf answer ≡ refused number place second → checkMatching b m ≡ refused number place second → JudgedIs b m r
+      Unplaced answer r → verdictOf answer ≡ refused number place second → checkMatching b m ≡ refused number place second → JudgedIs b m r
   judged-refused U e f =
       record {
         checked = ap verdictOf (U .answer) ∙ e ∙ sym f;
-        tables = rw (U .tables) (R .tables);
         men = rw (f, U .men) (no-entries (vectorOf b m));
         women = rw (f, U .women) (no-entries (mirror (market b) (vectorOf b m)));
       }
@@ -60,7 +59,7 @@ module _ {b : List ℕ} (m : List ℕ) {L : Loaded} (R : Recorded b L) where
       no-entries f = record { here = λ u. absurd (omega arith); past = λ {i} u. zeros-read largest i; long = refl }
 
   -- the book is refused
-  pub judged-book : {r : Judged} {number place second : ℕ} → verdictOf (L .checked) ≡ refused number place second → Unplaced (L .checked) (L .instance) r → JudgedIs b m r
+  pub judged-book : {r : Judged} {number place second : ℕ} → verdictOf (L .checked) ≡ refused number place second → Unplaced (L .checked) r → JudgedIs b m r
   unfolding checkMatching
   judged-book e U = judged-refused U e (rw (sym (R .checked) ∙ e))
 
@@ -75,7 +74,7 @@ module _ {b : List ℕ} (m : List ℕ) {L : Loaded} (R : Recorded b L) where
 
     -- rule 8 or 9 refuses
     pub judged-names : {listed : Checked} {r : Judged} {number place second : ℕ} →
-        verdictOf listed ≡ checkNames (L .instance .n) m → verdictOf listed ≡ refused number place second → Unplaced listed (L .instance) r → JudgedIs b m r
+        verdictOf listed ≡ checkNames (L .instance .n) m → verdictOf listed ≡ refused number place second → Unplaced listed r → JudgedIs b m r
     unfolding checkMatching
     judged-names g e U =
         let h = sym (rw (book-tables .number) at g) ∙ e in
@@ -107,17 +106,16 @@ module _ {b : List ℕ} (m : List ℕ) {L : Loaded} (R : Recorded b L) where
           verdict = (rw (book-tables .number) at v) ∙ tables-stable matching book-tables filled ∙ sym (matching-stable matching)
 
           -- rule 10 refuses
-          pub judged-unstable : {r : Judged} {number place second : ℕ} → verdictOf checked ≡ refused number place second → Unplaced checked (L .instance) r → JudgedIs b m r
+          pub judged-unstable : {r : Judged} {number place second : ℕ} → verdictOf checked ≡ refused number place second → Unplaced checked r → JudgedIs b m r
           judged-unstable e U = judged-refused U e (sym verdict ∙ e)
 
           -- it does not
-          pub judged-stable : verdictOf checked ≡ fine → JudgedIs b m (record { checked = checked; instance = L .instance; places = p })
+          pub judged-stable : verdictOf checked ≡ fine → JudgedIs b m (record { checked = checked; places = p })
           unfolding market
           judged-stable e =
               let S = fine-stable b m .0 (sym verdict ∙ e) in
               record {
                 checked = verdict;
-                tables = R .tables;
                 men = rw (sym verdict ∙ e) (record {
                   here = λ {i} u. man-place matching book-tables filled u ∙ sym (places-placed (market b) (byte m) i (matching .names .below u));
                   past = λ {i} u. front-kept (filled .his) i (λ j l z. omega arith) ∙ zeros-read largest i;

@@ -4,10 +4,11 @@ use Prim.Native.Nat.{ℕ}
 use mathlib.Core.Path.{_≡_, sym, _∙_}
 use mathlib.Core.List.{List}
 use Rattle.laws.specs.Values.{vec}
+use Rattle.instance.specs.declared.record.Loaded.{Loaded}
 use Rattle.instance.specs.Verdict.{fine, verdictOf}
 use Rattle.instance.specs.Format.{people}
 use Rattle.instance.specs.WellFormed.{fine-well-formed}
-use Rattle.instance.specs.Record.{Tables}
+use Rattle.instance.specs.Record.{Tables, Recorded}
 use Rattle.stable_theory.specs.Stable.Vector.{Stable, Mirror}
 use Rattle.stable_theory.specs.Stable.Holding.{Same, stable-same}
 use Rattle.stable_theory.specs.Stable.Mirror.{mirror-of}
@@ -19,9 +20,9 @@ use Rattle.matching.specs.StableCheck.{StableIn, fine-stable}
 use Rattle.matching.specs.StableVector.{vector-stable}
 use Rattle.matching.specs.Judge.{JudgedIs}
 
-pub record JudgedStable (b m : List ℕ) (r : Judged) : Type 0 where
+pub record JudgedStable (b m : List ℕ) (L : Loaded) (r : Judged) : Type 0 where
   pub matching : StableIn b m
-  pub tables : Tables b (people b) (r .instance)
+  pub tables : Tables b (people b) (L .instance)
   -- the students' places are those of the matching
   pub same : Same (market b) (vec (r .places .men)) (vectorOf b m)
   -- they are a stable vector, and the mentors' places its other side
@@ -29,9 +30,9 @@ pub record JudgedStable (b m : List ℕ) (r : Judged) : Type 0 where
   pub mirror : Mirror (market b) (vec (r .places .men)) (vec (r .places .women))
 
 -- the answer says so
-pub judged-is-stable : {b m : List ℕ} {r : Judged} → JudgedIs b m r → verdictOf (r .checked) ≡ fine → JudgedStable b m r
+pub judged-is-stable : {b m : List ℕ} {L : Loaded} {r : Judged} → Recorded b L → JudgedIs b m r → verdictOf (r .checked) ≡ fine → JudgedStable b m L r
 unfolding market
-judged-is-stable {b} {m} {r} J e =
+judged-is-stable {b} {m} {L} {r} R J e =
     let f : checkMatching b m ≡ fine = sym (J .checked) ∙ e in
     let S = fine-stable b m .0 f in
     let P = vector-stable S in
@@ -40,7 +41,7 @@ judged-is-stable {b} {m} {r} J e =
     let same : Same (market b) (vectorOf b m) (vec (r .places .men)) = λ i u. sym (men .here u) in
     record {
       matching = S;
-      tables = rw (fine-well-formed b .1 (S .matching .formed)) at (J .tables);
+      tables = rw (fine-well-formed b .1 (S .matching .formed)) at (R .tables);
       same = λ i u. men .here u;
       stable = stable-same (vectorOf b m) (vec (r .places .men)) same P;
       mirror = mirror-alike (alike-refl (market b)) same (λ w v. sym (women .here v)) (mirror-of (market-proper (S .matching .formed)) (P .settled));

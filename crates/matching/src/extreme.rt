@@ -2,6 +2,7 @@
 use crate::Places;
 use instance::Checked;
 use instance::Instance;
+use instance::Loaded;
 use instance::refuse;
 ghost use mathlib.Core.Path.{_≡_};
 ghost use mathlib.Core.List.{_++_};
@@ -56,15 +57,14 @@ fn extreme(proposers: Proposers, book: &[u8], out: &mut [u8]) -> Checked
 {
     let loaded = Instance::load(book);
     let answer = loaded.checked;
-    let instance = loaded.instance;
-    let n = instance.n;
+    let n = loaded.instance.n;
     let room = out.len();
     let checked = check_room(answer, n, room);
     let Checked::Fine = checked else {
         return checked;
     };
-    let places = extreme_places(proposers, instance);
-    write_matching(n, &instance.man_lists, &places.men, out);
+    let places = extreme_places(proposers, loaded);
+    write_matching(n, &loaded.instance.man_lists, &places.men, out);
     checked
 }
 
@@ -96,28 +96,28 @@ pub fn write_matching(n: usize, lists: &[u16], places: &[u16], out: &mut [u8])
 }
 
 // The extreme matching that is best for the side that proposes, as places.
-fn extreme_places(proposers: Proposers, instance: Instance) -> Places
-    requires { ⌜ Usable instance ⌝ }
-    ensures { λ r. ⌜ PlacesOf instance (extremeOf proposers (marketIn instance)) r ⌝ }
+fn extreme_places(proposers: Proposers, loaded: Loaded) -> Places
+    requires { ⌜ Usable (loaded .instance) ⌝ }
+    ensures { λ r. ⌜ PlacesOf (loaded .instance) (extremeOf proposers (marketIn (loaded .instance))) r ⌝ }
 {
     match proposers {
-        Proposers::Men => man_optimal_places(instance),
-        Proposers::Women => woman_optimal_places(instance),
+        Proposers::Men => man_optimal_places(loaded),
+        Proposers::Women => woman_optimal_places(loaded),
     }
 }
 
 // The student-best matching as places.
-pub fn man_optimal_places(instance: Instance) -> Places
-    requires { ⌜ Usable instance ⌝ }
-    ensures { λ r. ⌜ PlacesOf instance (proposer-optimal (marketIn instance)) r ⌝ }
+pub fn man_optimal_places(loaded: Loaded) -> Places
+    requires { ⌜ Usable (loaded .instance) ⌝ }
+    ensures { λ r. ⌜ PlacesOf (loaded .instance) (proposer-optimal (marketIn (loaded .instance))) r ⌝ }
 {
     let sides = proposer_optimal(
-        instance.n,
-        &instance.man_lengths,
-        &instance.man_lists,
-        &instance.woman_lengths,
-        &instance.woman_lists,
-        &instance.woman_ranks,
+        loaded.instance.n,
+        &loaded.instance.man_lengths,
+        &loaded.instance.man_lists,
+        &loaded.instance.woman_lengths,
+        &loaded.instance.woman_lists,
+        &loaded.instance.woman_ranks,
     );
     let men = sides.proposers;
     let women = sides.receivers;
@@ -125,17 +125,17 @@ pub fn man_optimal_places(instance: Instance) -> Places
 }
 
 // The mentor-best matching as places.
-pub fn woman_optimal_places(instance: Instance) -> Places
-    requires { ⌜ Usable instance ⌝ }
-    ensures { λ r. ⌜ PlacesOf instance (receiver-optimal (marketIn instance)) r ⌝ }
+pub fn woman_optimal_places(loaded: Loaded) -> Places
+    requires { ⌜ Usable (loaded .instance) ⌝ }
+    ensures { λ r. ⌜ PlacesOf (loaded .instance) (receiver-optimal (marketIn (loaded .instance))) r ⌝ }
 {
     let sides = proposer_optimal(
-        instance.n,
-        &instance.woman_lengths,
-        &instance.woman_lists,
-        &instance.man_lengths,
-        &instance.man_lists,
-        &instance.man_ranks,
+        loaded.instance.n,
+        &loaded.instance.woman_lengths,
+        &loaded.instance.woman_lists,
+        &loaded.instance.man_lengths,
+        &loaded.instance.man_lists,
+        &loaded.instance.man_ranks,
     );
     let men = sides.receivers;
     let women = sides.proposers;

@@ -22,10 +22,8 @@ pub struct Places {
     pub women: [u16; Instance::LARGEST],
 }
 
-// What the check of a matching makes of a book and a matching: its answer, the record of the book, and the places of the matching, zeros
-// alone on a refusal.
+// What the check of a matching makes of it: its answer, and the places of the matching, zeros alone on a refusal.
 pub struct Judged {
     pub checked: Checked,
-    pub instance: Instance,
     pub places: Places,
 }

@@ -5,6 +5,7 @@ use crate::Places;
 use deferred::entry;
 use instance::Checked;
 use instance::Instance;
+use instance::Loaded;
 use instance::Refusal;
 use instance::first_faulty;
 use instance::refuse;
@@ -16,47 +17,48 @@ ghost use Rattle.instance.specs.Verdict.{verdictOf};
 ghost use Rattle.instance.specs.Format.{largest};
 ghost use Rattle.matching.specs.Matching.{checkNames, checkMatching};
 ghost use Rattle.matching.specs.Blocking.{willing, lowestWilling, checkTables, Searchable, OnLists, PlacesFillable, PlacesFilled};
-ghost use Rattle.matching.specs.Judge.{JudgedIs, Unplaced};
+ghost use Rattle.matching.specs.Judge.{FromBook, Judges, Unplaced};
 
 // Says whether a matching of a book is stable, or the first rule that is broken and where.
 pub fn check(book: &[u8], matching: &[u8]) -> Checked
     ensures { λ r. ⌜ verdictOf r ≡ checkMatching (now (book .entry)) (now (matching .entry)) ⌝ }
 {
-    let judged = judge(book, matching);
+    let loaded = Instance::load(book);
+    let judged = judge(loaded, matching);
     judged.checked
 }
 
-// The same answer, with the record of the book and the places of the matching.
-pub fn judge(book: &[u8], matching: &[u8]) -> Judged
-    ensures { λ r. ⌜ JudgedIs (now (book .entry)) (now (matching .entry)) r ⌝ }
+// The same answer from what is made of the book, with the places of the matching. It says so for each book of which that is made.
+pub fn judge(loaded: Loaded, matching: &[u8]) -> Judged
+    requires { ⌜ FromBook loaded ⌝ }
+    ensures { λ r. ⌜ Judges loaded (now (matching .entry)) r ⌝ }
 {
-    let loaded = Instance::load(book);
     let answer = loaded.checked;
-    let instance = loaded.instance;
     let Checked::Fine = answer else {
-        return unplaced(answer, instance);
+        return unplaced(answer);
     };
-    let n = instance.n;
+    let n = loaded.instance.n;
     let listed = check_names(n, matching);
     let Checked::Fine = listed else {
-        return unplaced(listed, instance);
+        return unplaced(listed);
     };
-    let places = places_of(n, matching, &instance.man_ranks, &instance.woman_ranks);
+    let places = places_of(
+        n,
+        matching,
+        &loaded.instance.man_ranks,
+        &loaded.instance.woman_ranks,
+    );
     let checked = check_stable(
         n,
-        &instance.man_lists,
-        &instance.woman_ranks,
+        &loaded.instance.man_lists,
+        &loaded.instance.woman_ranks,
         &places.men,
         &places.women,
     );
     let Checked::Fine = checked else {
-        return unplaced(checked, instance);
+        return unplaced(checked);
     };
-    Judged {
-        checked,
-        instance,
-        places,
-    }
+    Judged { checked, places }
 }
 
 // Rules 8 and 9: n bytes below n, none twice.
@@ -74,12 +76,11 @@ fn check_names(n: usize, matching: &[u8]) -> Checked
 }
 
 // A refusal, with no places.
-fn unplaced(checked: Checked, instance: Instance) -> Judged
-    ensures { λ r. ⌜ Unplaced checked instance r ⌝ }
+fn unplaced(checked: Checked) -> Judged
+    ensures { λ r. ⌜ Unplaced checked r ⌝ }
 {
     Judged {
         checked,
-        instance,
         places: Places {
             men: [0u16; Instance::LARGEST],
             women: [0u16; Instance::LARGEST],

@@ -8,9 +8,6 @@ use borrow.Author.Needs.{needs}
 use Rattle.matching.proofs.stability.judge.Statement.{statement}
 use Rattle.matching.proofs.stability.judge.Tie as tie
 
-load-requires : tie.Need-load-requires
-load-requires c κs = search needs
-
 enum-told : tie.Need-enum-told
 enum-told c = search needs
 
@@ -21,10 +18,10 @@ unplaced-requires : tie.Need-unplaced-requires
 unplaced-requires c κs = search needs
 
 returns : tie.Need-returns
-returns c = judged-book _ (c .before .before .before .before .load .ensures) (ap verdictOf (c .before .enum-told2 .given .1)) (c .unplaced .ensures)
+returns c = λ b R. judged-book _ R (ap verdictOf (c .before .enum-told2 .given .1)) (c .unplaced .ensures)
 
 -- the book's check found nothing
-book : (c : tie.After-enum-told) → verdictOf (c .before .before .before .load .result .checked) ≡ fine
+book : (c : tie.After-enum-told) → verdictOf (c .before .before .before .args .t1 .checked) ≡ fine
 book c = ap verdictOf (c .enum-told .given .1)
 
 check-names-requires : tie.Need-check-names-requires
@@ -41,20 +38,21 @@ unplaced-requires-2 c κs = search needs
 
 returns-2 : tie.Need-returns-2
 returns-2 c =
-    judged-names _ (c .before .before .before .before .before .before .before .load .ensures) (book (c .before .before .before .before)) (c .before .before .before .check-names .ensures) (ap verdictOf (c .before .enum-told4 .given .1))
-    (c .unplaced2 .ensures)
+    λ b R. judged-names _ R (book (c .before .before .before .before)) (c .before .before .before .check-names .ensures) (ap verdictOf (c .before .enum-told4 .given .1)) (c .unplaced2 .ensures)
 
 -- nor did rules 8 and 9
-names : (c : tie.After-enum-told3) → checkNames (c .before .before .before .before .before .before .load .result .instance .n) (now (c .before .before .before .before .before .before .before .before .before .args .matching)) ≡ fine
+names : (c : tie.After-enum-told3) → checkNames (c .before .before .before .before .before .before .args .t1 .instance .n) (now (c .before .before .before .before .before .before .args .matching)) ≡ fine
 names c = sym (c .before .before .check-names .ensures) ∙ ap verdictOf (c .enum-told3 .given .1)
 
 places-of-requires : tie.Need-places-of-requires
-places-of-requires c κs = judge-fillable _ (c .before .before .before .before .before .before .before .before .before .before .before .load .ensures) (book (c .before .before .before .before .before .before .before .before)) (names (c .before .before .before .before .before))
+places-of-requires c κs =
+    let t = c .before .before .before .before .before in
+    judge-fillable _ (t .before .before .before .before .before .before .pre .recorded) (book (t .before .before .before)) (names t)
 
 check-stable-requires : tie.Need-check-stable-requires
 check-stable-requires c κs =
     let t = c .before .before .before .before .before .before .before .before .before .before .before .before .before .before .before .before in
-    let R = t .before .before .before .before .before .before .load .ensures in
+    let R = t .before .before .before .before .before .before .pre .recorded in
     let F = c .before .before .before .before .before .before .before .before .before .before .places-of .ensures in
     (judge-searchable _ R (book (t .before .before .before)) (names t) F, judge-on-lists _ R (book (t .before .before .before)) (names t) F)
 
@@ -70,20 +68,19 @@ unplaced-requires-3 c κs = search needs
 returns-3 : tie.Need-returns-3
 returns-3 c =
     let t = c .before .before .before .before .before .before .before .before .before .before .before .before .before .before .before .before .before .before .before .before in
-    judged-unstable _ (t .before .before .before .before .before .before .load .ensures) (book (t .before .before .before)) (names t) (c .before .before .before .before .before .before .before .before .before .before .before .before .before .before .places-of .ensures) _ (c .before .before .before .check-stable .ensures)
+    λ b R. judged-unstable _ R (book (t .before .before .before)) (names t) (c .before .before .before .before .before .before .before .before .before .before .before .before .before .before .places-of .ensures) _ (c .before .before .before .check-stable .ensures)
     (ap verdictOf (c .before .enum-told6 .given .1)) (c .unplaced3 .ensures)
 
 returns-4 : tie.Need-returns-4
 returns-4 c =
     let t = c .before .before .before .before .before .before .before .before .before .before .before .before .before .before .before .before .before .before .before in
-    judged-stable _ (t .before .before .before .before .before .before .load .ensures) (book (t .before .before .before)) (names t) (c .before .before .before .before .before .before .before .before .before .before .before .before .before .places-of .ensures) _ (c .before .before .check-stable .ensures)
+    λ b R. judged-stable _ R (book (t .before .before .before)) (names t) (c .before .before .before .before .before .before .before .before .before .before .before .before .before .places-of .ensures) _ (c .before .before .check-stable .ensures)
     (ap verdictOf (c .enum-told5 .given .1))
 
 pub judge-spec : {M : Type 1} → statement M
 judge-spec =
     tie.close
     (tie.spec
-    load-requires
     enum-told
     enum-told-2
     unplaced-requires
