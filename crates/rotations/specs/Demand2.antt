@@ -23,8 +23,8 @@ use Rattle.matching.specs.StableVector.{fine-vector}
 use Rattle.rotations.specs.RotationList.{rotationCount}
 use Rattle.rotations.specs.Precedence.{bookPrecedes}
 use Rattle.rotations.specs.Sets.{member, closedSet, checkSet, setMatching, matchingSet}
-use Rattle.rotations.specs.SetVerdict.{set-accepted, accepted-set, marks-good}
-use Rattle.rotations.specs.ThereAndBack.{set-member, set-matching-fine, set-there, matching-formed, matching-marks, matching-closed, matching-there}
+use Rattle.rotations.specs.Laws.SetVerdict.{set-accepted, accepted-set, marks-good}
+use Rattle.rotations.specs.Laws.ThereAndBack.{set-member, set-matching-fine, set-there, matching-formed, matching-marks, matching-closed, matching-there}
 
 module _ {b : List ℕ} (W : WellFormed b) where
   -- the rotations listed are numbered as document 01 says: from the student-best matching on, of those exposed the one that holds the lowest student
@@ -55,23 +55,23 @@ module _ {b : List ℕ} (W : WellFormed b) where
   pub closed-right : (set : List ℕ) → (closedSet b set ≡ true) ↔ Closed (market b) (rotationCount b) (rotation (market b)) (member set)
   closed-right set = closed-test (market-proper W) (member set)
 
-module _ {b m : List ℕ} (e : checkMatching b m ≡ fine) where
+module _ (b m : List ℕ) (e : checkMatching b m ≡ fine) where
   -- a run of eliminations from the student-best matching ends at each stable matching
   pub run-exists : (l : List Rotation) × Run (market b) (vectorOf b m) l
-  run-exists = theorem-1-run (market-proper (matching-formed e)) (fine-vector b m e)
+  run-exists = theorem-1-run (market-proper (matching-formed b m e)) (fine-vector b m e)
 
   module _ {l : List Rotation} (run : Run (market b) (vectorOf b m) l) where
     -- and every such run eliminates exactly the rotations of its set
     pub run-eliminates : {k : ℕ} → k < rotationCount b → (member (matchingSet b m) k ≡ true) ↔ Among (rotation (market b) k) l
-    run-eliminates {k} h = rw (set-member b m k h) (theorem-1-exactly (market-proper (matching-formed e)) run h)
+    run-eliminates {k} h = rw (set-member b m k h) (theorem-1-exactly (market-proper (matching-formed b m e)) run h)
 
     -- none twice
     pub run-once : Once l
-    run-once = theorem-1-once (market-proper (matching-formed e)) run
+    run-once = theorem-1-once (market-proper (matching-formed b m e)) run
 
     -- and nothing else
     pub run-nothing-else : {σ : Rotation} → Among σ l → (k : ℕ) × (k < rotationCount b) × SamePairs σ (rotation (market b) k)
-    run-nothing-else a = theorem-1-nothing-else (market-proper (matching-formed e)) run a
+    run-nothing-else a = theorem-1-nothing-else (market-proper (matching-formed b m e)) run a
 
 -- a set that is accepted is closed, its matching is stable, and the matching's set is the set
 pub set-round : (b set : List ℕ) (room : ℕ) → checkSet b set room ≡ fine →
@@ -79,11 +79,11 @@ pub set-round : (b set : List ℕ) (room : ℕ) → checkSet b set room ≡ fine
 set-round b set room e =
     let A = set-accepted b set room e in
     let W = fine-well-formed b .0 (A .fine) in
-    (closed-right W set .0 (A .closed), set-matching-fine W (A .closed), set-there W (A .closed) (marks-good b set (A .marks)))
+    (closed-right W set .0 (A .closed), set-matching-fine W set (A .closed), set-there W set (A .closed) (marks-good b set (A .marks)))
 
 -- a stable matching's set is accepted, and the set's matching is the matching
 pub matching-round : (b m : List ℕ) (room : ℕ) → people b ≤ room → checkMatching b m ≡ fine → (checkSet b (matchingSet b m) room ≡ fine) × (setMatching b (matchingSet b m) ≡ m)
 matching-round b m room h e = (
-  accepted-set b (matchingSet b m) room (record { fine = fine-well-formed b .1 (matching-formed e); marks = matching-marks e; closed = matching-closed e; room = h }),
-  matching-there e,
+  accepted-set b (matchingSet b m) room (record { fine = fine-well-formed b .1 (matching-formed b m e); marks = matching-marks b m e; closed = matching-closed b m e; fits = h }),
+  matching-there b m e,
 )

@@ -1,26 +1,7 @@
--- Rotations, their order and closed subsets: what the contracts of src/ cite. Assumes nothing.
-pub mod Pointers
-pub mod NextCode
-pub mod CycleCode
-pub mod Written
-pub mod EliminateCode
-pub mod WriteCode
-pub mod RunCode
-pub mod Numbers
+-- Rotations, their order and closed subsets, in the words of document 01: what the contracts of the public functions cite, and the second half of
+-- demand 2. Laws has what the code's parts and the proofs cite. Assumes nothing.
 pub mod RotationList
-pub mod ListBytes
-pub mod Replies
-pub mod BookList
 pub mod Precedence
 pub mod Sets
-pub mod ListRead
-pub mod Required
-pub mod BookOrder
-pub mod SetCode
-pub mod Over
-pub mod PlaceTests
-pub mod SetPlaces
-pub mod BookSets
-pub mod SetVerdict
-pub mod ThereAndBack
+pub mod Laws
 pub mod Demand2

@@ -10,8 +10,8 @@ ghost use Rattle.laws.specs.Values.{vec};
 ghost use Rattle.laws.specs.Cycle.{returns};
 ghost use Rattle.stable_theory.specs.Rotations.Numbering.{followers};
 ghost use Rattle.deferred.specs.Lists.{Tables, Sized, marketOf};
-ghost use Rattle.rotations.specs.Pointers.{State};
-ghost use Rattle.rotations.specs.CycleCode.{WalkedTo, LowestOf, SearchedTo, LowestIs};
+ghost use Rattle.rotations.specs.Laws.Pointers.{State};
+ghost use Rattle.rotations.specs.Laws.CycleCode.{WalkedTo, LowestOf, SearchedTo, LowestIs};
 
 // The lower of two numbers.
 fn lower(x: usize, y: usize) -> usize

@@ -15,7 +15,7 @@ ghost use Rattle.stable_theory.specs.Rotations.Numbering.{total};
 ghost use Rattle.instance.specs.Verdict.{verdictOf};
 ghost use Rattle.matching.specs.Usable.{Usable, marketIn};
 ghost use Rattle.matching.specs.Extreme.{filled};
-ghost use Rattle.rotations.specs.Numbers.{NumberingOf};
+ghost use Rattle.rotations.specs.Laws.Numbers.{NumberingOf};
 ghost use Rattle.rotations.specs.RotationList.{rotationCount, listBytes, checkList, replyOf, counting};
 
 // How many rotations there are, or the rule that is broken.

@@ -6,7 +6,7 @@ ghost use Prim.Native.Nat.{_+_, _≤_, _<_, max};
 ghost use lib.ListN.{length};
 ghost use Rattle.laws.specs.Values.{vec};
 ghost use Rattle.deferred.specs.Lists.{Tables, Sized, marketOf};
-ghost use Rattle.rotations.specs.Pointers.{Passed, Stopped, State, FollowerIs};
+ghost use Rattle.rotations.specs.Laws.Pointers.{Passed, Stopped, State, FollowerIs};
 
 // The first place from `from` on of a receiver who prefers proposer i to whom she has, or the end of his list.
 fn advance(

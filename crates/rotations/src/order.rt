@@ -15,10 +15,10 @@ ghost use Rattle.instance.specs.Verdict.{verdictOf};
 ghost use Rattle.stable_theory.specs.Stable.Holding.{Same};
 ghost use Rattle.deferred.specs.Lists.{Tables, marketOf};
 ghost use Rattle.matching.specs.Usable.{Usable, marketIn};
-ghost use Rattle.rotations.specs.Written.{Turnable, rotationIn};
-ghost use Rattle.rotations.specs.ListRead.{startIn, numberIn, pastIn, Readable};
-ghost use Rattle.rotations.specs.Required.{RequiredBy, FromZeros, requiredPlaces};
-ghost use Rattle.rotations.specs.EliminateCode.{Eliminable};
+ghost use Rattle.rotations.specs.Laws.Written.{Turnable, rotationIn};
+ghost use Rattle.rotations.specs.Laws.ListRead.{startIn, numberIn, pastIn, Readable};
+ghost use Rattle.rotations.specs.Laws.Required.{RequiredBy, FromZeros, requiredPlaces};
+ghost use Rattle.rotations.specs.Laws.EliminateCode.{Eliminable};
 ghost use Rattle.rotations.specs.Precedence.{checkNumbers, bookPrecedes, answerOf, saying};
 
 // Whether one rotation precedes another, or the rule that is broken.

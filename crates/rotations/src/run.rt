@@ -13,9 +13,9 @@ ghost use Rattle.stable_theory.specs.Least.Optimal.{proposer-optimal};
 ghost use Rattle.deferred.specs.Lists.{Tables, Sized, marketOf};
 ghost use Rattle.matching.specs.Usable.{Usable, marketIn};
 ghost use Rattle.matching.specs.ExtremePlaces.{PlacesOf};
-ghost use Rattle.rotations.specs.Pointers.{State};
-ghost use Rattle.rotations.specs.RunCode.{Room, Turned, Numbered};
-ghost use Rattle.rotations.specs.Numbers.{NumberingOf};
+ghost use Rattle.rotations.specs.Laws.Pointers.{State};
+ghost use Rattle.rotations.specs.Laws.RunCode.{Room, Turned, Numbered};
+ghost use Rattle.rotations.specs.Laws.Numbers.{NumberingOf};
 
 // How many rotations there are, and where their list ends.
 pub(crate) struct Extent {

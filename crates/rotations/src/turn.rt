@@ -9,10 +9,10 @@ ghost use lib.ListN.{length};
 ghost use Rattle.laws.specs.Values.{vec};
 ghost use Rattle.stable_theory.specs.Rotations.Numbering.{lowest, rotationAt};
 ghost use Rattle.deferred.specs.Lists.{Tables, Sized, marketOf};
-ghost use Rattle.rotations.specs.Pointers.{State};
-ghost use Rattle.rotations.specs.Written.{around, rotationIn};
-ghost use Rattle.rotations.specs.EliminateCode.{Eliminable, Eliminating};
-ghost use Rattle.rotations.specs.WriteCode.{WroteCycle};
+ghost use Rattle.rotations.specs.Laws.Pointers.{State};
+ghost use Rattle.rotations.specs.Laws.Written.{around, rotationIn};
+ghost use Rattle.rotations.specs.Laws.EliminateCode.{Eliminable, Eliminating};
+ghost use Rattle.rotations.specs.Laws.WriteCode.{WroteCycle};
 
 // Number k of a cycle of c pairs, in which number c is number 0 again.
 fn round(c: usize, k: usize) -> usize

@@ -6,7 +6,6 @@ use lib.ListN.{length, length-set, List·getD-eq-default}
 use Rattle.laws.specs.Choice.{split}
 use Rattle.laws.specs.Front.{front-more}
 use Rattle.laws.specs.Values.{vec}
-use borrow.Author.Needs.{needs}
 use Rattle.rotations.proofs.cycle.clear.Statement.{statement}
 use Rattle.rotations.proofs.cycle.clear.Tie as tie
 

@@ -7,7 +7,7 @@ use Rattle.laws.specs.Values.{vec}
 use Rattle.laws.specs.Cycle.{period, period-le}
 use Rattle.stable_theory.specs.Rotations.Numbering.{followers}
 use Rattle.deferred.specs.Lists.{marketOf}
-use Rattle.rotations.specs.CycleCode.{Rounding, rounding-start, rounding-inside, rounding-on, rounding-end}
+use Rattle.rotations.specs.Laws.CycleCode.{Rounding, rounding-start, rounding-inside, rounding-on, rounding-end}
 use borrow.Author.Needs.{needs}
 use Rattle.rotations.proofs.cycle.cycle_low.Statement.{statement}
 use Rattle.rotations.proofs.cycle.cycle_low.Tie as tie

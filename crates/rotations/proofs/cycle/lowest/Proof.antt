@@ -1,13 +1,13 @@
 -- `rotations::cycle::lowest` meets its contract. The loop's invariant: the walks from the proposers below x are done, and `low` is the lowest
 -- proposer on the cycles that they found. Assumes nothing.
-use Prim.Native.Nat.{_-_, _≤_, _<_}
-use mathlib.Core.Path.{_≡_, refl, sym, _∙_}
+use Prim.Native.Nat.{_-_}
+use mathlib.Core.Path.{_≡_, sym, _∙_}
 use native.Mathlib.Omega.{arith}
 use lib.ListN.{length}
 use Rattle.laws.specs.Values.{vec}
 use Rattle.laws.specs.Walk.{sought-start}
 use Rattle.deferred.specs.Lists.{marketOf}
-use Rattle.rotations.specs.CycleCode.{SearchedTo, state-on, searched-end}
+use Rattle.rotations.specs.Laws.CycleCode.{SearchedTo, state-on, searched-end}
 use borrow.Author.Needs.{needs}
 use Rattle.rotations.proofs.cycle.lowest.Statement.{statement}
 use Rattle.rotations.proofs.cycle.lowest.Tie as tie

@@ -1,11 +1,10 @@
 -- `rotations::cycle::search_from` meets its contract: each return is one of the ways in which a walk can end.
 -- `room` and `room-2` say that both lists keep their lengths over the walk. Assumes nothing.
-use Prim.Native.Nat.{_<_}
-use mathlib.Core.Path.{_≡_, sym, _∙_, refl}
+use mathlib.Core.Path.{_≡_, sym, _∙_}
 use native.Mathlib.Omega.{arith}
 use lib.ListN.{length}
 use Rattle.laws.specs.Walk.{sought-skip, mark-new, walk-round}
-use Rattle.rotations.specs.CycleCode.{state-on, searched-none, searched-old, searched-new}
+use Rattle.rotations.specs.Laws.CycleCode.{state-on, searched-none, searched-old, searched-new}
 use borrow.Author.Needs.{needs}
 use Rattle.rotations.proofs.cycle.search_from.Statement.{statement}
 use Rattle.rotations.proofs.cycle.search_from.Tie as tie

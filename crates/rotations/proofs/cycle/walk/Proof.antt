@@ -1,14 +1,13 @@
 -- `rotations::cycle::walk` meets its contract. The loop's invariant: the walk has come to y, and whom it met bears its mark.
 -- The measure is the number of proposers without a mark. Assumes nothing.
-use Prim.Native.Nat.{_+_, _≤_, _<_}
-use mathlib.Core.Path.{_≡_, refl, sym, _∙_}
+use Prim.Native.Nat.{_+_, _<_}
+use mathlib.Core.Path.{sym, _∙_}
 use native.Mathlib.Omega.{arith}
-use lib.ListN.{length, set}
+use lib.ListN.{set}
 use Rattle.laws.specs.Values.{vec}
 use Rattle.laws.specs.Walk.{unmarked, marked-one, walk-start}
 use Rattle.deferred.specs.Lists.{marketOf}
-use Rattle.rotations.specs.CycleCode.{Walking, walking-on, walking-end}
-use borrow.Author.Needs.{needs}
+use Rattle.rotations.specs.Laws.CycleCode.{Walking, walking-on, walking-end}
 use Rattle.rotations.proofs.cycle.walk.Statement.{statement}
 use Rattle.rotations.proofs.cycle.walk.Tie as tie
 

@@ -1,12 +1,9 @@
 -- `rotations::listing::copy` meets its contract. The loop's invariant: the first i numbers stand at the front of `out`. Assumes nothing.
-use Prim.Native.Nat.{ℕ, _+_, _-_, _≤_, _<_}
-use mathlib.Core.Path.{_≡_, _∙_, ap}
-use mathlib.Core.List.{List, _++_}
+use Prim.Native.Nat.{_-_}
 use native.Mathlib.Omega.{arith}
 use native.Mathlib.Nat.{zero-add}
-use lib.ListN.{length, getD, set, drop}
+use lib.ListN.{length}
 use Rattle.laws.specs.Overwrite.{Copied, copied-start, copied-on, copied-end}
-use borrow.Author.Needs.{needs}
 use Rattle.rotations.proofs.listing.copy.Statement.{statement}
 use Rattle.rotations.proofs.listing.copy.Tie as tie
 

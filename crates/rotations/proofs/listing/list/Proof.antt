@@ -1,6 +1,6 @@
 -- `rotations::listing::list` meets its contract: where nothing is refused the numbers of the list are written, and otherwise nothing is.
 -- `read` says that the book is well formed and the record is its own, `numbers` are the bytes lent to `copy`. Assumes nothing.
-use Prim.Native.Nat.{ℕ, _≤_, _<_}
+use Prim.Native.Nat.{ℕ, _<_}
 use mathlib.Core.Path.{_≡_, sym, _∙_, ap, ap₂}
 use mathlib.Core.List.{List, _++_}
 use native.Mathlib.Omega.{arith}
@@ -9,8 +9,8 @@ use lib.Seq.{length-take-le, getD-take}
 use Rattle.instance.specs.Check.{checkBook}
 use Rattle.instance.specs.Verdict.{Verdict, verdictOf}
 use Rattle.rotations.specs.RotationList.{listBytes, rotationCount, counting}
-use Rattle.rotations.specs.Replies.{Read, record-read, read-usable, room-refused, room-short, room-fits, reply-refused, reply-fine}
-use Rattle.rotations.specs.BookList.{list-bytes, list-long, list-within, list-small, book-numbered}
+use Rattle.rotations.specs.Laws.Replies.{Read, record-read, read-usable, room-refused, room-short, room-fits, reply-refused, reply-fine}
+use Rattle.rotations.specs.Laws.BookList.{list-bytes, list-long, list-within, list-small, book-numbered}
 use borrow.Author.Needs.{needs}
 use Rattle.rotations.proofs.listing.list.Statement.{statement}
 use Rattle.rotations.proofs.listing.list.Tie as tie

@@ -1,16 +1,14 @@
 -- `rotations::next::advance` meets its contract. The loop's invariant: every receiver between the start and place k has been passed.
 -- `listed` says that place k is on the list, `receiver` that the entry read is a receiver. Assumes nothing.
 use Prim.Native.Nat.{_-_, _<_}
-use mathlib.Core.Path.{_≡_, ap, _∙_}
 use native.Mathlib.Omega.{arith}
 use denote.Ref.{now}
-use lib.ListN.{length}
 use borrow.Author.Needs.{needs}
 use Rattle.laws.specs.Values.{vec}
 use Rattle.deferred.specs.Lists.{marketOf}
 use Rattle.deferred.specs.Step.{stored-index, stored-entry, rank-index}
-use Rattle.rotations.specs.Pointers.{Passed}
-use Rattle.rotations.specs.NextCode.{stop-end, stop-on, stop-here}
+use Rattle.rotations.specs.Laws.Pointers.{Passed}
+use Rattle.rotations.specs.Laws.NextCode.{stop-end, stop-on, stop-here}
 use Rattle.rotations.proofs.next.advance.Statement.{statement}
 use Rattle.rotations.proofs.next.advance.Tie as tie
 

@@ -1,11 +1,11 @@
 -- `rotations::next::follower` meets its contract. `stopped` is where the search along the list ends, `listed` says that this is before the
 -- end, `receiver` that the entry read there is a receiver. Assumes nothing.
-use Prim.Native.Nat.{_≤_, _<_}
+use Prim.Native.Nat.{_<_}
 use native.Mathlib.Omega.{arith}
 use denote.Ref.{now}
 use Rattle.laws.specs.Values.{vec}
 use Rattle.deferred.specs.Step.{stored-index, stored-entry}
-use Rattle.rotations.specs.NextCode.{answer-end, answer-free, answer-held}
+use Rattle.rotations.specs.Laws.NextCode.{answer-end, answer-free, answer-held}
 use borrow.Author.Needs.{needs}
 use Rattle.rotations.proofs.next.follower.Statement.{statement}
 use Rattle.rotations.proofs.next.follower.Tie as tie

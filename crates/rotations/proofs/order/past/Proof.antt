@@ -1,11 +1,10 @@
 -- `rotations::order::past` meets its contract. Assumes nothing.
-use Prim.Native.Nat.{ℕ}
-use mathlib.Core.Path.{_≡_, _∙_, ap, ap₂}
+use mathlib.Core.Path.{_∙_, ap, ap₂}
 use native.Mathlib.Omega.{arith}
 use lib.Dec.{leb}
 use Rattle.laws.specs.Table.{cell, cell-lt}
 use Rattle.laws.specs.Values.{vec}
-use Rattle.rotations.specs.ListRead.{pastIn}
+use Rattle.rotations.specs.Laws.ListRead.{pastIn}
 use borrow.Author.Needs.{needs}
 use Rattle.rotations.proofs.order.past.Statement.{statement}
 use Rattle.rotations.proofs.order.past.Tie as tie

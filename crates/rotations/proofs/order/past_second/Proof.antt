@@ -1,11 +1,11 @@
 -- `rotations::order::past_second` meets its contract. `front` is what the test reads of the first rotation. Assumes nothing.
 use Prim.Native.Nat.{suc, _+_}
-use mathlib.Core.Path.{_≡_, sym, _∙_, ap}
+use mathlib.Core.Path.{_∙_, ap}
 use native.Mathlib.Omega.{arith}
 use lib.Dec.{leb}
 use Rattle.laws.specs.Table.{cell}
 use Rattle.laws.specs.Values.{vec}
-use Rattle.rotations.specs.ListRead.{Front, readable-front, startIn, pastIn}
+use Rattle.rotations.specs.Laws.ListRead.{Front, readable-front, pastIn}
 use borrow.Author.Needs.{needs}
 use Rattle.rotations.proofs.order.past_second.Statement.{statement}
 use Rattle.rotations.proofs.order.past_second.Tie as tie

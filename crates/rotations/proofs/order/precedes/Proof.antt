@@ -1,15 +1,15 @@
 -- `rotations::order::precedes` meets its contract. `read` says that the book is well formed and the record is its own, `counted` that the code's
 -- number of rotations is the book's, `first` and `second` that both numbers are below it. Assumes nothing.
 use Prim.Native.Nat.{_<_}
-use mathlib.Core.Path.{_≡_, refl, sym, _∙_, ap}
+use mathlib.Core.Path.{_≡_, sym, _∙_, ap}
 use mathlib.Core.Bool.{false}
 use native.Mathlib.Omega.{arith}
 use Rattle.instance.specs.Verdict.{Verdict, fine, verdictOf}
 use Rattle.rotations.specs.RotationList.{rotationCount}
 use Rattle.rotations.specs.Precedence.{bookPrecedes, saying}
-use Rattle.rotations.specs.Replies.{Read, record-read, read-usable}
-use Rattle.rotations.specs.BookList.{book-numbered}
-use Rattle.rotations.specs.BookOrder.{book-readable, book-precedes, precedes-itself, numbers-book, numbers-first, numbers-second, numbers-fine, saying-refused, saying-fine}
+use Rattle.rotations.specs.Laws.Replies.{Read, record-read, read-usable}
+use Rattle.rotations.specs.Laws.BookList.{book-numbered}
+use Rattle.rotations.specs.Laws.BookOrder.{book-readable, book-precedes, precedes-itself, numbers-book, numbers-first, numbers-second, numbers-fine, saying-refused, saying-fine}
 use borrow.Author.Needs.{needs}
 use Rattle.rotations.proofs.order.precedes.Statement.{statement}
 use Rattle.rotations.proofs.order.precedes.Tie as tie

@@ -1,8 +1,8 @@
 -- `rotations::order::required` meets its contract. Assumes nothing.
 use mathlib.Core.Path.{sym, _∙_}
 use Rattle.laws.specs.Padded.{zeros-front}
-use Rattle.rotations.specs.Written.{rotationIn}
-use Rattle.rotations.specs.Required.{zeros-eliminable, from-zeros, required-by}
+use Rattle.rotations.specs.Laws.Written.{rotationIn}
+use Rattle.rotations.specs.Laws.Required.{zeros-eliminable, from-zeros, required-by}
 use borrow.Author.Needs.{needs}
 use Rattle.rotations.proofs.order.required.Statement.{statement}
 use Rattle.rotations.proofs.order.required.Tie as tie

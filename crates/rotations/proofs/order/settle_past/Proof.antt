@@ -1,6 +1,6 @@
 -- `rotations::order::settle_past` meets its contract: the rotation eliminated from zeros, then deferred acceptance. Assumes nothing.
 use mathlib.Core.Path.{_∙_}
-use Rattle.rotations.specs.Required.{start-within, required-least}
+use Rattle.rotations.specs.Laws.Required.{start-within, required-least}
 use borrow.Author.Needs.{needs}
 use Rattle.rotations.proofs.order.settle_past.Statement.{statement}
 use Rattle.rotations.proofs.order.settle_past.Tie as tie

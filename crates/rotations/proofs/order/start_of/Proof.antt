@@ -3,8 +3,7 @@ use Prim.Native.Nat.{suc, _-_, _≤_}
 use mathlib.Core.Path.{_≡_, refl, _∙_, ap}
 use native.Mathlib.Omega.{arith}
 use Rattle.laws.specs.Values.{vec}
-use Rattle.rotations.specs.ListRead.{startIn, start-next}
-use borrow.Author.Needs.{needs}
+use Rattle.rotations.specs.Laws.ListRead.{startIn, start-next}
 use Rattle.rotations.proofs.order.start_of.Statement.{statement}
 use Rattle.rotations.proofs.order.start_of.Tie as tie
 

@@ -7,9 +7,8 @@ use lib.ListN.{length}
 use Rattle.laws.specs.Values.{vec}
 use Rattle.stable_theory.specs.Rotations.Numbering.{total, rotation}
 use Rattle.deferred.specs.Lists.{Sized, marketOf}
-use Rattle.rotations.specs.Written.{offset-ge}
-use Rattle.rotations.specs.RunCode.{OneTurn, Running, running-start, running-end, running-less, running-on, turned-none, turned-one}
-use borrow.Author.Needs.{needs}
+use Rattle.rotations.specs.Laws.Written.{offset-ge}
+use Rattle.rotations.specs.Laws.RunCode.{OneTurn, Running, running-start, running-end, running-less, running-on, turned-none, turned-one}
 use Rattle.rotations.proofs.run.fill.Statement.{statement}
 use Rattle.rotations.proofs.run.fill.Tie as tie
 

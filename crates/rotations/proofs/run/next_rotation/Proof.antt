@@ -1,15 +1,13 @@
 -- `rotations::run::next_rotation` meets its contract: the lowest man on a cycle, the rotation from him on written, and its elimination.
 -- `same` says that he is the one whom the numbering asks for, `exposed` that the rotation is exposed. Assumes nothing.
-use Prim.Native.Nat.{_<_}
-use mathlib.Core.Path.{_≡_, refl, sym, _∙_}
-use native.Mathlib.Omega.{arith}
+use mathlib.Core.Path.{refl, _∙_}
 use Rattle.laws.specs.Values.{vec}
 use Rattle.stable_theory.specs.Rotations.Rotation.{Exposed}
 use Rattle.stable_theory.specs.Rotations.Numbering.{rotationAt}
 use Rattle.deferred.specs.Lists.{marketOf}
-use Rattle.rotations.specs.CycleCode.{state-on}
-use Rattle.rotations.specs.WriteCode.{cycle-exposed}
-use Rattle.rotations.specs.RunCode.{none, room-now, written-eliminable, one-turn}
+use Rattle.rotations.specs.Laws.CycleCode.{state-on}
+use Rattle.rotations.specs.Laws.WriteCode.{cycle-exposed}
+use Rattle.rotations.specs.Laws.RunCode.{none, room-now, written-eliminable, one-turn}
 use borrow.Author.Needs.{needs}
 use Rattle.rotations.proofs.run.next_rotation.Statement.{statement}
 use Rattle.rotations.proofs.run.next_rotation.Tie as tie

@@ -2,7 +2,7 @@
 use mathlib.Core.Path.{sym}
 use native.Mathlib.Omega.{arith}
 use Rattle.laws.specs.Padded.{zeros-front}
-use Rattle.rotations.specs.Numbers.{run-sized, run-best, run-state, run-room}
+use Rattle.rotations.specs.Laws.Numbers.{run-sized, run-best, run-state, run-room}
 use borrow.Author.Needs.{needs}
 use Rattle.rotations.proofs.run.number_all.Statement.{statement}
 use Rattle.rotations.proofs.run.number_all.Tie as tie

@@ -1,15 +1,14 @@
 -- `rotations::turn::eliminate` meets its contract. The loop's invariant: the first k pairs are eliminated. `pairs` says that the loop's bound is
 -- the number of pairs, `man` and `woman` that the numbers read are those of the rotation, `man-below` and `woman-below` that they are below the bounds.
 -- Assumes nothing.
-use Prim.Native.Nat.{suc, _+_, _*_, _-_, _≤_, _<_}
+use Prim.Native.Nat.{suc, _+_, _-_, _≤_, _<_}
 use mathlib.Core.Path.{_≡_, _∙_, ap}
 use native.Mathlib.Omega.{arith}
 use denote.Ref.{now}
-use lib.ListN.{length}
 use Rattle.laws.specs.Table.{cell-lt}
 use Rattle.laws.specs.Values.{vec}
-use Rattle.rotations.specs.Written.{around, rotationIn}
-use Rattle.rotations.specs.EliminateCode.{Eliminating, eliminating-start, eliminating-on, man-read, woman-read, around-lt}
+use Rattle.rotations.specs.Laws.Written.{around, rotationIn}
+use Rattle.rotations.specs.Laws.EliminateCode.{Eliminating, eliminating-start, eliminating-on, man-read, woman-read, around-lt}
 use borrow.Author.Needs.{needs}
 use Rattle.rotations.proofs.turn.eliminate.Statement.{statement}
 use Rattle.rotations.proofs.turn.eliminate.Tie as tie

@@ -1,6 +1,5 @@
 -- `rotations::turn::round` meets its contract. Assumes nothing.
 use borrow.Author.Tests.{eq-eqb, ne-eqb}
-use borrow.Author.Needs.{needs}
 use Rattle.rotations.proofs.turn.round.Statement.{statement}
 use Rattle.rotations.proofs.turn.round.Tie as tie
 

@@ -1,19 +1,19 @@
 -- `rotations::turn::write_cycle` meets its contract. The loop's invariant: c pairs are written, c turns have led from x to i, and more are to be
 -- made. The measure is what is left of them. `holds` says that i has the woman at his place, `woman` that she is the entry read, `on` is a turn.
 -- Assumes nothing.
-use Prim.Native.Nat.{_+_, _*_, _-_, _≤_, _<_}
+use Prim.Native.Nat.{_+_, _*_, _-_, _<_}
 use mathlib.Core.Path.{_≡_, sym, _∙_, ap}
 use native.Mathlib.Omega.{arith}
 use denote.Ref.{now}
-use lib.ListN.{length, set, length-set}
+use lib.ListN.{length, length-set}
 use Rattle.laws.specs.Table.{cell}
 use Rattle.laws.specs.Values.{vec}
 use Rattle.laws.specs.Cycle.{period, period-le}
 use Rattle.stable_theory.specs.Stable.Vector.{Holds}
-use Rattle.stable_theory.specs.Rotations.Numbering.{followers, rotationAt}
+use Rattle.stable_theory.specs.Rotations.Numbering.{followers}
 use Rattle.deferred.specs.Lists.{marketOf}
 use Rattle.deferred.specs.Step.{stored-index}
-use Rattle.rotations.specs.WriteCode.{Writing, writing-start, hand-holds, writing-on, writing-end, cycle-pairs, cycle-returns}
+use Rattle.rotations.specs.Laws.WriteCode.{Writing, writing-start, hand-holds, writing-on, writing-end, cycle-pairs, cycle-returns}
 use borrow.Author.Needs.{needs}
 use Rattle.rotations.proofs.turn.write_cycle.Statement.{statement}
 use Rattle.rotations.proofs.turn.write_cycle.Tie as tie

@@ -1,0 +1,94 @@
+-- The verdict on a set, rule by rule, and what is known where nothing is refused. Assumes nothing.
+use Prim.Native.Nat.{ℕ, _≤_, _<_}
+use mathlib.Core.Path.{_≡_, sym, _∙_, ap}
+use mathlib.Core.Bool.{Bool, true, false, not}
+use mathlib.Core.List.{List}
+use lib.ListN.{length}
+use lib.Dec.{ltb, eqb}
+use borrow.Author.Tests.{lt-ltb, le-ltb, ltb-false, eqb-true, not-false}
+use Rattle.laws.specs.Choice.{either, either-none}
+use Rattle.laws.specs.First.{some, some-none}
+use Rattle.instance.specs.Verdict.{Verdict, fine, refused, broken, rule, stays, goes-on, all-fine, rule-fine}
+use Rattle.instance.specs.Format.{byte, people}
+use Rattle.instance.specs.Check.{checkBook}
+use Rattle.rotations.specs.RotationList.{rotationCount}
+use Rattle.rotations.specs.Sets.{badMarks, closedSet, checkSet}
+
+-- What follows rule 15
+abbrev pub afterMarks : List ℕ → List ℕ → ℕ → Verdict
+afterMarks b set room = rule (not (closedSet b set)) 16 0 (rule (ltb room (people b)) 14 0 fine)
+
+-- What is known of a set in which nothing is refused
+pub record Accepted (b set : List ℕ) (room : ℕ) : Type 0 where
+  pub fine : checkBook b ≡ fine
+  pub marks : badMarks b set ≡ false
+  pub closed : closedSet b set ≡ true
+  pub fits : people b ≤ room
+
+module _ (b set : List ℕ) (room : ℕ) where
+  -- the book is refused
+  pub set-book : {number place second : ℕ} → checkBook b ≡ refused number place second → checkSet b set room ≡ refused number place second
+  unfolding checkSet
+  set-book e = stays (checkBook b) (rule (badMarks b set) 15 0 (afterMarks b set room)) e ∙ e
+
+  module _ (e : checkBook b ≡ fine) where
+    -- the book is not: rule 15 is tried
+    on-marks : checkSet b set room ≡ rule (badMarks b set) 15 0 (afterMarks b set room)
+    unfolding checkSet
+    on-marks = goes-on (checkBook b) (rule (badMarks b set) 15 0 (afterMarks b set room)) e
+
+    pub set-marks : badMarks b set ≡ true → checkSet b set room ≡ broken 15 0
+    set-marks f = on-marks ∙ ap (λ (t : Bool). rule t 15 0 (afterMarks b set room)) f
+
+    module _ (f : badMarks b set ≡ false) where
+      -- the marks are good: rule 16 is tried
+      on-closed : checkSet b set room ≡ afterMarks b set room
+      on-closed = on-marks ∙ ap (λ (t : Bool). rule t 15 0 (afterMarks b set room)) f
+
+      pub set-open : closedSet b set ≡ false → checkSet b set room ≡ broken 16 0
+      set-open g = on-closed ∙ ap (λ (t : Bool). rule (not t) 16 0 (rule (ltb room (people b)) 14 0 fine)) g
+
+      module _ (g : closedSet b set ≡ true) where
+        -- the set is closed: rule 14 is tried
+        on-room : checkSet b set room ≡ rule (ltb room (people b)) 14 0 fine
+        on-room = on-closed ∙ ap (λ (t : Bool). rule (not t) 16 0 (rule (ltb room (people b)) 14 0 fine)) g
+
+        pub set-short : room < people b → checkSet b set room ≡ broken 14 0
+        set-short h = on-room ∙ ap (λ (t : Bool). rule t 14 0 fine) (lt-ltb room (people b) h)
+
+        pub set-fine : people b ≤ room → checkSet b set room ≡ fine
+        set-fine h = on-room ∙ ap (λ (t : Bool). rule t 14 0 fine) (le-ltb room (people b) h)
+
+  -- where nothing is refused
+  pub set-accepted : checkSet b set room ≡ fine → Accepted b set room
+  unfolding checkSet
+  set-accepted e =
+      let a = all-fine (checkBook b) (rule (badMarks b set) 15 0 (afterMarks b set room)) e in
+      let m = rule-fine (badMarks b set) 15 0 (afterMarks b set room) (a .1) in
+      let c = rule-fine (not (closedSet b set)) 16 0 (rule (ltb room (people b)) 14 0 fine) (m .1) in
+      let r = rule-fine (ltb room (people b)) 14 0 fine (c .1) in
+      record { fine = a .0; marks = m .0; closed = not-false (closedSet b set) (c .0); fits = ltb-false room (people b) (r .0) }
+
+  -- and back
+  pub accepted-set : Accepted b set room → checkSet b set room ≡ fine
+  accepted-set A = set-fine (A .fine) (A .marks) (A .closed) (A .fits)
+
+-- Good marks: one byte a rotation, and none over 1
+pub record GoodMarks (b set : List ℕ) : Type 0 where
+  pub long : length set ≡ rotationCount b
+  pub small : (k : ℕ) → k < length set → byte set k ≤ 1
+
+pub marks-good : (b set : List ℕ) → badMarks b set ≡ false → GoodMarks b set
+unfolding badMarks
+marks-good b set e =
+    let h = either-none (not (eqb (length set) (rotationCount b))) (some (λ k. ltb 1 (byte set k)) (length set)) e in
+    record {
+      long = eqb-true (length set) (rotationCount b) (not-false (eqb (length set) (rotationCount b)) (h .0));
+      small = λ k u. ltb-false 1 (byte set k) (some-none (λ k. ltb 1 (byte set k)) (h .1) u);
+    }
+
+-- the code's test of the marks, by its own number of rotations, is rule 15
+pub marks-test : (b set : List ℕ) {count : ℕ} {answer : Bool} → count ≡ rotationCount b →
+    answer ≡ either (not (eqb (length set) count)) (some (λ k. ltb 1 (byte set k)) (length set)) → badMarks b set ≡ answer
+unfolding badMarks
+marks-test b set e q = sym (q ∙ ap (λ (z : ℕ). either (not (eqb (length set) z)) (some (λ k. ltb 1 (byte set k)) (length set))) e)
