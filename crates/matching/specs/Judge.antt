@@ -35,6 +35,14 @@ pub record FromBook (L : Loaded) : Type 0 where
 abbrev pub Judges : Loaded → List ℕ → Judged → Type 0
 Judges L m r = (b : List ℕ) → Recorded b L → JudgedIs b m r
 
+-- A book and a matching, what is made of the book, and the answer for it
+pub record BookJudged (b m : List ℕ) (L : Loaded) (r : Judged) : Type 0 where
+  pub loaded : Recorded b L
+  pub judged : JudgedIs b m r
+
+pub book-judged : {b m : List ℕ} {L : Loaded} {r : Judged} → Recorded b L → Judges L m r → BookJudged b m L r
+book-judged {b} R J = record { loaded = R; judged = J b R }
+
 -- An answer, with zeros for the places
 pub record Unplaced (checked : Checked) (r : Judged) : Type 0 where
   pub answer : r .checked ≡ checked

@@ -1,7 +1,7 @@
 -- The grade of a matching. Assumes nothing.
 use Prim.Native.Nat.{ℕ}
 use mathlib.Core.List.{List}
-use Rattle.instance.specs.Verdict.{Verdict, fine, refused as broken}
+use Rattle.instance.specs.Verdict.{Verdict, fine, refused}
 use Rattle.stable_theory.specs.Repairs.Answer.{robustness}
 use Rattle.matching.specs.BookMarket.{market}
 use Rattle.matching.specs.Matching.{vectorOf, checkMatching}
@@ -16,17 +16,17 @@ gradeOf b m = robustness (market b) (λ i. 1) (vectorOf b m) (answerFor b m)
 -- A reply: the grade, or the number of a broken rule with its places
 pub data Reply : Type 0 where
   grade : ℕ → Reply
-  refused : ℕ → ℕ → ℕ → Reply
+  refusal : ℕ → ℕ → ℕ → Reply
 
 -- The reply that the code's answer stands for
 abbrev pub replyOf : Graded → Reply
 replyOf (Grade g) = grade g
-replyOf (Refused r) = refused (r .number) (r .place) (r .second)
+replyOf (Refused r) = refusal (r .number) (r .place) (r .second)
 
 -- A reply where nothing is refused, and the refusal otherwise
 abbrev pub replyIf : Verdict → Reply → Reply
 replyIf fine r = r
-replyIf (broken number place second) r = refused number place second
+replyIf (refused number place second) r = refusal number place second
 
 -- The reply for a matching
 abbrev pub gradeReply : List ℕ → List ℕ → Reply

@@ -9,7 +9,7 @@ use lib.IntN.{ℤ}
 use Rattle.laws.specs.Sum.{count}
 use Rattle.laws.specs.Values.{values}
 use Rattle.laws.specs.Difference.{less}
-use Rattle.instance.specs.Verdict.{Verdict, fine, refused as broken}
+use Rattle.instance.specs.Verdict.{Verdict, fine, refused}
 use Rattle.instance.specs.Format.{byte, people}
 use Rattle.stable_theory.specs.Repairs.Answer.{Answer, U, D, F, answerOf}
 use Rattle.matching.specs.BookMarket.{market}
@@ -36,14 +36,14 @@ pub data Reply : Type 0 where
   up : ℕ → Reply
   down : ℕ → Reply
   fixed : Reply
-  refused : ℕ → ℕ → ℕ → Reply
+  refusal : ℕ → ℕ → ℕ → Reply
 
 -- The reply that the code's answer stands for
 abbrev pub replyOf : Given → Reply
 replyOf (Up r) = up (r .distance)
 replyOf (Down r) = down (r .distance)
 replyOf Fixed = fixed
-replyOf (Refused r) = refused (r .number) (r .place) (r .second)
+replyOf (Refused r) = refusal (r .number) (r .place) (r .second)
 
 -- The reply for an answer: its letter, and the distance of the repaired matching
 abbrev pub replyFor : List ℕ → List ℕ → Answer → Reply
@@ -66,12 +66,12 @@ gainsAfter b m F gains = gains
 -- A reply where nothing is refused, and the refusal otherwise
 abbrev pub replyIf : Verdict → Reply → Reply
 replyIf fine r = r
-replyIf (broken number place second) r = refused number place second
+replyIf (refused number place second) r = refusal number place second
 
 -- What a buffer holds afterwards where nothing is refused, and what it held otherwise
 abbrev pub writtenIf : {A : Type 0} → Verdict → List A → List A → List A
 writtenIf fine after before = after
-writtenIf (broken number place second) after before = before
+writtenIf (refused number place second) after before = before
 
 -- The reply to a request, and the two buffers afterwards
 abbrev pub repairReply : List ℕ → List ℕ → List ℕ → List ℕ → List ℤ → Reply

@@ -7,6 +7,7 @@ use crate::gains::write_gains;
 use crate::vectors::nearest;
 use instance::Checked;
 use instance::Instance;
+use instance::Loaded;
 use instance::refuse;
 use instance::wide;
 use matching::Judged;
@@ -41,12 +42,13 @@ pub fn repair(
     ensures bytes { λ _. ⌜ now (out .exit) ≡ repairMatching (now (book .entry)) (now (matching .entry)) (now (request .entry)) (now (out .entry)) (now (gains .entry)) ⌝ }
     ensures places { λ _. ⌜ now (gains .exit) ≡ repairGains (now (book .entry)) (now (matching .entry)) (now (request .entry)) (now (out .entry)) (now (gains .entry)) ⌝ }
 {
-    let judged = judge(book, matching);
+    let loaded = Instance::load(book);
+    let judged = judge(loaded, matching);
     let checked = judged.checked;
     let Checked::Fine = checked else {
         return refused(checked);
     };
-    let n = judged.instance.n;
+    let n = loaded.instance.n;
     let room = out.len();
     let gains_room = gains.len();
     let asked = check_pair(n, matching, request, room, gains_room);
@@ -54,9 +56,9 @@ pub fn repair(
         return refused(asked);
     };
     let s = wide(request[0]);
-    let found = nearest_in(judged, s);
+    let found = nearest_in(loaded, judged, s);
     let men = judged.places.men;
-    answer(n, &judged.instance.man_lists, men, found, out, gains)
+    answer(n, &loaded.instance.man_lists, men, found, out, gains)
 }
 
 // A refusal as the answer for a pair; where nothing is refused, fixed.
@@ -98,21 +100,21 @@ fn check_pair(n: usize, matching: &[u8], request: &[u8], room: usize, gains_room
 }
 
 // The nearest repair of the pair of man s of a stable matching.
-fn nearest_in(judged: Judged, s: usize) -> Nearest
-    requires { ⌜ GivenIn (judged .instance) (judged .places) ⌝ }
-    requires { ⌜ s < judged .instance .n ⌝ }
-    ensures { λ r. ⌜ Shows (tableMarket (judged .instance .n) (judged .instance)) (vec (judged .places .men)) (answerOf (tableMarket (judged .instance .n) (judged .instance)) (λ i. 1) (vec (judged .places .men)) s) r ⌝ }
+fn nearest_in(loaded: Loaded, judged: Judged, s: usize) -> Nearest
+    requires { ⌜ GivenIn (loaded .instance) (judged .places) ⌝ }
+    requires { ⌜ s < loaded .instance .n ⌝ }
+    ensures { λ r. ⌜ Shows (tableMarket (loaded .instance .n) (loaded .instance)) (vec (judged .places .men)) (answerOf (tableMarket (loaded .instance .n) (loaded .instance)) (λ i. 1) (vec (judged .places .men)) s) r ⌝ }
 {
     let men = judged.places.men;
     let women = judged.places.women;
     nearest(
-        judged.instance.n,
-        &judged.instance.man_lengths,
-        &judged.instance.man_lists,
-        &judged.instance.man_ranks,
-        &judged.instance.woman_lengths,
-        &judged.instance.woman_lists,
-        &judged.instance.woman_ranks,
+        loaded.instance.n,
+        &loaded.instance.man_lengths,
+        &loaded.instance.man_lists,
+        &loaded.instance.man_ranks,
+        &loaded.instance.woman_lengths,
+        &loaded.instance.woman_lists,
+        &loaded.instance.woman_ranks,
         men,
         women,
         s,

@@ -18,7 +18,8 @@ ghost use Rattle.repair.specs.Nearest.{Given, costs};
 pub fn grade(book: &[u8], matching: &[u8]) -> Graded
     ensures { λ r. ⌜ replyOf r ≡ gradeReply (now (book .entry)) (now (matching .entry)) ⌝ }
 {
-    let judged = judge(book, matching);
+    let loaded = Instance::load(book);
+    let judged = judge(loaded, matching);
     let checked = judged.checked;
     let Checked::Fine = checked else {
         return ungraded(checked);
@@ -26,13 +27,13 @@ pub fn grade(book: &[u8], matching: &[u8]) -> Graded
     let men = judged.places.men;
     let women = judged.places.women;
     Graded::Grade(robustness(
-        judged.instance.n,
-        &judged.instance.man_lengths,
-        &judged.instance.man_lists,
-        &judged.instance.man_ranks,
-        &judged.instance.woman_lengths,
-        &judged.instance.woman_lists,
-        &judged.instance.woman_ranks,
+        loaded.instance.n,
+        &loaded.instance.man_lengths,
+        &loaded.instance.man_lists,
+        &loaded.instance.man_ranks,
+        &loaded.instance.woman_lengths,
+        &loaded.instance.woman_lists,
+        &loaded.instance.woman_ranks,
         men,
         women,
     ))

@@ -6,6 +6,7 @@ use mathlib.Core.List.{List}
 use native.Mathlib.Omega.{arith}
 use Rattle.laws.specs.Largest.{largest}
 use Rattle.laws.specs.Values.{vec}
+use Rattle.instance.specs.declared.record.Loaded.{Loaded}
 use Rattle.instance.specs.Verdict.{Verdict, fine}
 use Rattle.instance.specs.Format.{people}
 use Rattle.instance.specs.WellFormed.{WellFormed, fine-well-formed}
@@ -25,7 +26,7 @@ use Rattle.matching.specs.Kernel.{tableMarket, table-alike, table-proper, kerne
 use Rattle.matching.specs.Matching.{vectorOf, checkMatching}
 use Rattle.matching.specs.StableCheck.{fine-stable}
 use Rattle.matching.specs.StableVector.{fine-vector}
-use Rattle.matching.specs.Judge.{JudgedIs}
+use Rattle.matching.specs.Judge.{BookJudged}
 use Rattle.repair.specs.declared.answer.Nearest.{Nearest}
 use Rattle.repair.specs.Repair.{answerFor}
 use Rattle.repair.specs.Grade.{gradeOf}
@@ -33,38 +34,38 @@ use Rattle.repair.specs.Laws.Grade.{costs-alike}
 use Rattle.repair.specs.Nearest.{GivenIn, costs, Shows}
 use Rattle.repair.specs.Laws.Nearest.{shows-same, shows-alike}
 
-module _ {b m : List ℕ} {j : Judged} (J : JudgedIs b m j) (f : checkMatching b m ≡ fine) where
+module _ {b m : List ℕ} {L : Loaded} {j : Judged} (J : BookJudged b m L j) (f : checkMatching b m ≡ fine) where
   pub judged-formed : WellFormed b
   judged-formed = fine-stable b m .0 f .matching .formed
 
   -- the record has the book's number of persons
-  pub judged-number : j .instance .n ≡ people b
-  judged-number = J .tables .number ∙ ap (λ (v : Verdict). numberIf v (people b)) (fine-well-formed b .1 judged-formed)
+  pub judged-number : L .instance .n ≡ people b
+  judged-number = J .loaded .tables .number ∙ ap (λ (v : Verdict). numberIf v (people b)) (fine-well-formed b .1 judged-formed)
 
-  tables : Tables b (j .instance .n) (j .instance)
-  tables = subst⁻¹ (λ (n : ℕ). Tables b n (j .instance)) (J .tables .number) (J .tables)
+  tables : Tables b (L .instance .n) (L .instance)
+  tables = subst⁻¹ (λ (n : ℕ). Tables b n (L .instance)) (J .loaded .tables .number) (J .loaded .tables)
 
   -- the market of its tables is judged-alike to the book's
   abbrev I : Market
-  I = tableMarket (j .instance .n) (j .instance)
+  I = tableMarket (L .instance .n) (L .instance)
 
-  pub judged-alike : Alike (tableMarket (j .instance .n) (j .instance)) (market b)
+  pub judged-alike : Alike (tableMarket (L .instance .n) (L .instance)) (market b)
   judged-alike = table-alike judged-formed judged-number tables
 
   -- and the two vectors are those of the matching
-  here : {i : ℕ} → i < j .instance .n → i < numberIf (checkMatching b m) (people b)
+  here : {i : ℕ} → i < L .instance .n → i < numberIf (checkMatching b m) (people b)
   here {i} u = rw f (omega (arith, judged-number))
 
-  pub judged-men : Same (tableMarket (j .instance .n) (j .instance)) (vec (j .places .men)) (vectorOf b m)
-  judged-men i u = J .men .here (here u)
+  pub judged-men : Same (tableMarket (L .instance .n) (L .instance)) (vec (j .places .men)) (vectorOf b m)
+  judged-men i u = J .judged .men .here (here u)
 
   women : Same (exchange I) (vec (j .places .women)) (mirror (market b) (vectorOf b m))
-  women i u = J .women .here (here u)
+  women i u = J .judged .women .here (here u)
 
   given-stable : Stable I (vec (j .places .men))
   given-stable = stable-alike (alike-sym judged-alike) (same-alike judged-alike judged-men) (fine-vector b m f)
 
-  given-placed : {i : ℕ} → i < j .instance .n → vec (j .places .men) i < vec (j .instance .«man_lengths») i
+  given-placed : {i : ℕ} → i < L .instance .n → vec (j .places .men) i < vec (L .instance .«man_lengths») i
   unfolding market
   given-placed {i} u =
       let W = judged-formed in
@@ -72,7 +73,7 @@ module _ {b m : List ℕ} {j : Judged} (J : JudgedIs b m j) (f : checkMatching b
       omega (arith, judged-men i u, judged-alike .proposing .len u, stable-full (market-proper W) (market-complete W) (fine-vector b m f) v)
 
   -- what the check leaves is what the search asks
-  pub judged-given : GivenIn (j .instance) (j .places)
+  pub judged-given : GivenIn (L .instance) (j .places)
   judged-given =
       let W = judged-formed in
       record {
@@ -86,7 +87,7 @@ module _ {b m : List ℕ} {j : Judged} (J : JudgedIs b m j) (f : checkMatching b
       }
 
   -- what the search says over the record is the answer for the bytes
-  pub shows-book : {s : ℕ} {r : Nearest} → s < j .instance .n → Shows I (vec (j .places .men)) (answerOf I (λ i. 1) (vec (j .places .men)) s) r → Shows (market b) (vectorOf b m) (answerFor b m s) r
+  pub shows-book : {s : ℕ} {r : Nearest} → s < L .instance .n → Shows I (vec (j .places .men)) (answerOf I (λ i. 1) (vec (j .places .men)) s) r → Shows (market b) (vectorOf b m) (answerFor b m s) r
   shows-book {s} u S =
       let W = judged-formed in
       let M = table-proper W judged-number tables in
@@ -94,7 +95,7 @@ module _ {b m : List ℕ} {j : Judged} (J : JudgedIs b m j) (f : checkMatching b
       (shows-same (answer-alike M (market-proper W) judged-alike (λ i. 1) judged-men given-stable (hold-at M (vec (j .places .men)) u (given-placed u))) S)
 
   -- and the largest cost over the record is the grade
-  pub grade-book : largest (j .instance .n) (costs I (vec (j .places .men))) ≡ gradeOf b m
+  pub grade-book : largest (L .instance .n) (costs I (vec (j .places .men))) ≡ gradeOf b m
   grade-book =
       let W = judged-formed in
       let M = table-proper W judged-number tables in

@@ -8,7 +8,8 @@ use lib.IntN.{ℤ}
 use Rattle.laws.specs.Difference.{less}
 use Rattle.laws.specs.Table.{cell}
 use Rattle.laws.specs.Values.{vec, values}
-use Rattle.instance.specs.Verdict.{Verdict, fine, refused as broken, andThen, goes-on}
+use Rattle.instance.specs.declared.record.Loaded.{Loaded}
+use Rattle.instance.specs.Verdict.{Verdict, fine, refused, andThen, goes-on}
 use Rattle.instance.specs.Format.{byte, people}
 use Rattle.stable_theory.specs.Repairs.Answer.{Answers}
 use Rattle.stable_theory.specs.Repairs.AnswerLaws.{answer-of}
@@ -18,12 +19,12 @@ use Rattle.matching.specs.Matching.{vectorOf, checkMatching}
 use Rattle.matching.specs.ExtremeBytes.{Writable}
 use Rattle.matching.specs.StableCheck.{fine-stable}
 use Rattle.matching.specs.StableVector.{vector-stable}
-use Rattle.matching.specs.Judge.{JudgedIs}
+use Rattle.matching.specs.Judge.{BookJudged}
 use Rattle.repair.specs.declared.answer.Answer.{Answer as Given}
 use Rattle.repair.specs.declared.answer.Nearest.{Nearest}
 use Rattle.repair.specs.Request.{checkPair, checkRequest}
 use Rattle.repair.specs.Laws.Request.{Asked, asked}
-use Rattle.repair.specs.Repair.{refused, replyOf, replyIf, writtenIf, answerFor, replyFor, matchingAfter, gainsAfter, repairReply, repairMatching, repairGains}
+use Rattle.repair.specs.Repair.{refusal, replyOf, replyIf, writtenIf, answerFor, replyFor, matchingAfter, gainsAfter, repairReply, repairMatching, repairGains}
 use Rattle.repair.specs.Shown.{Small, shownReply, shownIf}
 use Rattle.repair.specs.Nearest.{Shows}
 use Rattle.repair.specs.Laws.Book.{judged-formed, judged-number, judged-men}
@@ -36,7 +37,7 @@ module _ (b m q out : List ℕ) (gains : List ℤ) where
   Returns r out′ gains′ = (replyOf r ≡ repairReply b m q out gains) × ((out′ ≡ repairMatching b m q out gains) × (gains′ ≡ repairGains b m q out gains))
 
   -- a refusal leaves both as they were
-  pub returns-refused : (r : Given) {number place second : ℕ} → checkRequest b m q (length out) (length gains) ≡ broken number place second → replyOf r ≡ refused number place second → Returns r out gains
+  pub returns-refused : (r : Given) {number place second : ℕ} → checkRequest b m q (length out) (length gains) ≡ refused number place second → replyOf r ≡ refusal number place second → Returns r out gains
   returns-refused r e f = (
     f ∙ sym (ap (λ (v : Verdict). replyIf v (replyFor b m (answerFor b m (byte q 0)))) e),
     (
@@ -58,30 +59,30 @@ module _ (b m q out : List ℕ) (gains : List ℤ) where
   )
 
   -- what the check of the matching refuses is refused
-  pub request-refused : {number place second : ℕ} → checkMatching b m ≡ broken number place second → checkRequest b m q (length out) (length gains) ≡ broken number place second
+  pub request-refused : {number place second : ℕ} → checkMatching b m ≡ refused number place second → checkRequest b m q (length out) (length gains) ≡ refused number place second
   request-refused e = ap (λ (v : Verdict). andThen v (checkPair (people b) m q (length out) (length gains))) e
 
-  module _ {j : Judged} (J : JudgedIs b m j) (f : checkMatching b m ≡ fine) where
+  module _ {L : Loaded} {j : Judged} (J : BookJudged b m L j) (f : checkMatching b m ≡ fine) where
     -- and else the rules of the request follow
-    pub request-follows : checkRequest b m q (length out) (length gains) ≡ checkPair (j .instance .n) m q (length out) (length gains)
+    pub request-follows : checkRequest b m q (length out) (length gains) ≡ checkPair (L .instance .n) m q (length out) (length gains)
     request-follows =
         goes-on (checkMatching b m) (checkPair (people b) m q (length out) (length gains)) f
         ∙ ap (λ (n : ℕ). checkPair n m q (length out) (length gains)) (sym (judged-number J f))
 
     -- there is a byte for each man
-    pub matching-long : j .instance .n ≤ length m
+    pub matching-long : L .instance .n ≤ length m
     matching-long = omega (arith, judged-number J f, fine-stable b m .0 f .matching .long)
 
     -- the given places fit a signed byte
-    pub given-small : j .instance .n ≤ length (j .places .men) → Small (j .instance .n) (j .places .men)
+    pub given-small : L .instance .n ≤ length (j .places .men) → Small (L .instance .n) (j .places .men)
     unfolding market
     given-small h =
         places-small J f (vector-stable (fine-stable b m .0 f)) (j .places .men) (λ i u. judged-men J f i (omega (arith, judged-number J f))) h
 
-    module _ (e : checkPair (j .instance .n) m q (length out) (length gains) ≡ fine) where
+    module _ (e : checkPair (L .instance .n) m q (length out) (length gains) ≡ fine) where
       -- the asking student, and room for the result
-      pub asks : Asked (j .instance .n) q (length out) (length gains)
-      asks = asked (j .instance .n) m q (length out) (length gains) e
+      pub asks : Asked (L .instance .n) q (length out) (length gains)
+      asks = asked (L .instance .n) m q (length out) (length gains) e
 
       student : byte q 0 < people b
       student = omega (arith, asks .student, judged-number J f)
@@ -93,16 +94,16 @@ module _ (b m q out : List ℕ) (gains : List ℤ) where
 
       module _ {r : Nearest} (S : Shows (market b) (vectorOf b m) (answerFor b m (byte q 0)) r) where
         -- what the search found can be written
-        pub found-writable : j .instance .n ≤ length (r .men) → Writable (j .instance .n) (j .instance .«man_lists») (r .men) out
+        pub found-writable : L .instance .n ≤ length (r .men) → Writable (L .instance .n) (L .instance .«man_lists») (r .men) out
         found-writable h = places-writable J f (after-stable J f answers) (r .men) (S .places) h (asks .room-fits)
 
-        pub found-small : j .instance .n ≤ length (r .men) → Small (j .instance .n) (r .men)
+        pub found-small : L .instance .n ≤ length (r .men) → Small (L .instance .n) (r .men)
         found-small h = places-small J f (after-stable J f answers) (r .men) (S .places) h
 
         -- and is the answer
         pub returns-found : (a : Given) {out′ : List ℕ} {gains′ : List ℤ} → replyOf a ≡ shownReply (r .letter) (r .distance) →
-            out′ ≡ shownIf (r .letter) (values (λ i. cell (j .instance .«man_lists») (j .instance .n) i (vec (r .men) i)) 0 (j .instance .n) ++ drop (j .instance .n) out) out →
-            gains′ ≡ shownIf (r .letter) (values (λ i. less (vec (j .places .men) i) (vec (r .men) i)) 0 (j .instance .n) ++ drop (j .instance .n) gains) gains →
+            out′ ≡ shownIf (r .letter) (values (λ i. cell (L .instance .«man_lists») (L .instance .n) i (vec (r .men) i)) 0 (L .instance .n) ++ drop (L .instance .n) out) out →
+            gains′ ≡ shownIf (r .letter) (values (λ i. less (vec (j .places .men) i) (vec (r .men) i)) 0 (L .instance .n) ++ drop (L .instance .n) gains) gains →
             Returns a out′ gains′
         returns-found a x y z =
             returns-answer a (request-follows ∙ e) (x ∙ says-reply J f answers S) (y ∙ says-bytes J f answers S out) (z ∙ says-gains J f answers S gains)

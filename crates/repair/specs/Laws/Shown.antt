@@ -9,6 +9,7 @@ use lib.IntN.{ℤ}
 use Rattle.laws.specs.Difference.{less}
 use Rattle.laws.specs.Table.{cell}
 use Rattle.laws.specs.Values.{vec, values, values-same}
+use Rattle.instance.specs.declared.record.Loaded.{Loaded}
 use Rattle.instance.specs.Verdict.{fine}
 use Rattle.instance.specs.Format.{byte, people}
 use Rattle.stable_theory.specs.Stable.Vector.{Stable}
@@ -23,7 +24,7 @@ use Rattle.matching.specs.Extreme.{matchingOf}
 use Rattle.matching.specs.ExtremeBytes.{Writable}
 use Rattle.matching.specs.StableCheck.{StableIn, fine-stable}
 use Rattle.matching.specs.StableVector.{vector-stable}
-use Rattle.matching.specs.Judge.{JudgedIs}
+use Rattle.matching.specs.Judge.{BookJudged}
 use Rattle.repair.specs.declared.answer.Nearest.{Nearest}
 use Rattle.repair.specs.Repair.{up, down, gainsOf, replyFor, matchingAfter, gainsAfter}
 use Rattle.repair.specs.Shown.{Small, shownReply, shownIf}
@@ -31,31 +32,31 @@ use Rattle.repair.specs.Nearest.{Shows, vectorAfter}
 use Rattle.repair.specs.Laws.Book.{judged-formed, judged-number, judged-alike, judged-men, judged-given}
 use Rattle.repair.specs.Laws.Bytes.{place-of, moved-vector, vector-place}
 
-module _ {b m : List ℕ} {j : Judged} (J : JudgedIs b m j) (f : checkMatching b m ≡ fine) where
+module _ {b m : List ℕ} {L : Loaded} {j : Judged} (J : BookJudged b m L j) (f : checkMatching b m ≡ fine) where
   inside : StableIn b m
   inside = fine-stable b m .0 f
 
   -- a man of the record is a student of the book
-  on : {i : ℕ} → i < j .instance .n → i < people b
+  on : {i : ℕ} → i < L .instance .n → i < people b
   on u = omega (arith, judged-number J f)
 
   module _ {v : ℕ → ℕ} (S : Stable (market b) v) (places : List ℕ) (e : (i : ℕ) → i < market b .proposers .size → vec places i ≡ v i) where
     -- a place of a stable vector is on the list, which has n entries
-    place-listed : {i : ℕ} → i < j .instance .n → vec places i < vec (j .instance .«man_lengths») i
+    place-listed : {i : ℕ} → i < L .instance .n → vec places i < vec (L .instance .«man_lengths») i
     unfolding market
     place-listed {i} u =
         let W = judged-formed J f in
         let l = on u in
         omega (arith, e i l, stable-full (market-proper W) (market-complete W) S l, judged-alike J f .proposing .len u)
 
-    place-lt : {i : ℕ} → i < j .instance .n → vec places i < j .instance .n
+    place-lt : {i : ℕ} → i < L .instance .n → vec places i < L .instance .n
     place-lt u = omega (arith, place-listed u, judged-given J f .by-men .proposers .short u)
 
     -- so its places fit a signed byte, and its matching can be written
-    pub places-small : j .instance .n ≤ length places → Small (j .instance .n) places
+    pub places-small : L .instance .n ≤ length places → Small (L .instance .n) places
     places-small h = record { long = h; small = λ u. omega (arith, place-lt u, judged-given J f .few) }
 
-    pub places-writable : {out : List ℕ} → j .instance .n ≤ length places → j .instance .n ≤ length out → Writable (j .instance .n) (j .instance .«man_lists») places out
+    pub places-writable : {out : List ℕ} → L .instance .n ≤ length places → L .instance .n ≤ length out → Writable (L .instance .n) (L .instance .«man_lists») places out
     places-writable h k =
         let T = judged-given J f .by-men .proposers in
         record {
@@ -67,10 +68,10 @@ module _ {b m : List ℕ} {j : Judged} (J : JudgedIs b m j) (f : checkMatching b
         }
 
     -- the bytes are its matching
-    bytes-of : values (λ i. cell (j .instance .«man_lists») (j .instance .n) i (vec places i)) 0 (j .instance .n) ≡ matchingOf b v
+    bytes-of : values (λ i. cell (L .instance .«man_lists») (L .instance .n) i (vec places i)) 0 (L .instance .n) ≡ matchingOf b v
     unfolding market
     bytes-of =
-        values-same (j .instance .n) (λ i. cell (j .instance .«man_lists») (j .instance .n) i (vec places i)) (partners (market b) v)
+        values-same (L .instance .n) (λ i. cell (L .instance .«man_lists») (L .instance .n) i (vec places i)) (partners (market b) v)
         (λ i u.
         judged-alike J f .proposing .at u (place-listed u)
         ∙ ap (market b .proposers .at i) (e i (on u))
@@ -78,17 +79,17 @@ module _ {b m : List ℕ} {j : Judged} (J : JudgedIs b m j) (f : checkMatching b
         ∙ ap (values (partners (market b) v) 0) (judged-number J f)
 
     -- and the gains those from m to it
-    gains-of : values (λ i. less (vec (j .places .men) i) (vec places i)) 0 (j .instance .n) ≡ gainsOf b m (matchingOf b v)
+    gains-of : values (λ i. less (vec (j .places .men) i) (vec places i)) 0 (L .instance .n) ≡ gainsOf b m (matchingOf b v)
     unfolding market
     gains-of =
-        values-same (j .instance .n) (λ i. less (vec (j .places .men) i) (vec places i)) (λ i. less (manRank b i (byte m i)) (manRank b i (byte (matchingOf b v) i)))
+        values-same (L .instance .n) (λ i. less (vec (j .places .men) i) (vec places i)) (λ i. less (manRank b i (byte m i)) (manRank b i (byte (matchingOf b v) i)))
         (λ i u. ap₂ less (judged-men J f i u ∙ place-of (inside .matching) (on u)) (e i (on u) ∙ sym (vector-place (judged-formed J f) S (on u))))
         ∙ ap (values (λ i. less (manRank b i (byte m i)) (manRank b i (byte (matchingOf b v) i))) 0) (judged-number J f)
 
-    pub bytes-after : (out : List ℕ) → values (λ i. cell (j .instance .«man_lists») (j .instance .n) i (vec places i)) 0 (j .instance .n) ++ drop (j .instance .n) out ≡ matchingOf b v ++ drop (people b) out
+    pub bytes-after : (out : List ℕ) → values (λ i. cell (L .instance .«man_lists») (L .instance .n) i (vec places i)) 0 (L .instance .n) ++ drop (L .instance .n) out ≡ matchingOf b v ++ drop (people b) out
     bytes-after out = ap₂ (λ (l : List ℕ) (n : ℕ). l ++ drop n out) bytes-of (judged-number J f)
 
-    pub gains-after : (gains : List ℤ) → values (λ i. less (vec (j .places .men) i) (vec places i)) 0 (j .instance .n) ++ drop (j .instance .n) gains ≡ gainsOf b m (matchingOf b v) ++ drop (people b) gains
+    pub gains-after : (gains : List ℤ) → values (λ i. less (vec (j .places .men) i) (vec places i)) 0 (L .instance .n) ++ drop (L .instance .n) gains ≡ gainsOf b m (matchingOf b v) ++ drop (people b) gains
     gains-after gains = ap₂ (λ (l : List ℤ) (n : ℕ). l ++ drop n gains) gains-of (judged-number J f)
 
   -- the vector after a right answer is stable
@@ -104,13 +105,13 @@ module _ {b m : List ℕ} {j : Judged} (J : JudgedIs b m j) (f : checkMatching b
   says-reply (neither k g) S = rw (S .letter)
 
   pub says-bytes : {s : ℕ} {a : Answer} {r : Nearest} → Answers (market b) (λ i. 1) (vectorOf b m) s a → Shows (market b) (vectorOf b m) a r → (out : List ℕ) →
-      shownIf (r .letter) (values (λ i. cell (j .instance .«man_lists») (j .instance .n) i (vec (r .men) i)) 0 (j .instance .n) ++ drop (j .instance .n) out) out ≡ matchingAfter b a out
+      shownIf (r .letter) (values (λ i. cell (L .instance .«man_lists») (L .instance .n) i (vec (r .men) i)) 0 (L .instance .n) ++ drop (L .instance .n) out) out ≡ matchingAfter b a out
   says-bytes {r = r} (nearer-up K g) S out = rw (S .letter) (bytes-after (K .parts .stable) (r .men) (S .places) out)
   says-bytes {r = r} (nearer-down K g) S out = rw (S .letter) (bytes-after (K .parts .stable) (r .men) (S .places) out)
   says-bytes {r = r} (neither k g) S out = rw (S .letter)
 
   pub says-gains : {s : ℕ} {a : Answer} {r : Nearest} → Answers (market b) (λ i. 1) (vectorOf b m) s a → Shows (market b) (vectorOf b m) a r → (gains : List ℤ) →
-      shownIf (r .letter) (values (λ i. less (vec (j .places .men) i) (vec (r .men) i)) 0 (j .instance .n) ++ drop (j .instance .n) gains) gains ≡ gainsAfter b m a gains
+      shownIf (r .letter) (values (λ i. less (vec (j .places .men) i) (vec (r .men) i)) 0 (L .instance .n) ++ drop (L .instance .n) gains) gains ≡ gainsAfter b m a gains
   says-gains {r = r} (nearer-up K g) S gains = rw (S .letter) (gains-after (K .parts .stable) (r .men) (S .places) gains)
   says-gains {r = r} (nearer-down K g) S gains = rw (S .letter) (gains-after (K .parts .stable) (r .men) (S .places) gains)
   says-gains {r = r} (neither k g) S gains = rw (S .letter)

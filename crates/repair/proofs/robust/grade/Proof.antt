@@ -3,14 +3,18 @@ use mathlib.Core.Path.{_≡_, sym, _∙_, ap}
 use denote.Ref.{now}
 use borrow.Author.Needs.{needs}
 use Rattle.instance.specs.Verdict.{Verdict, fine, verdictOf}
+use Rattle.matching.specs.Judge.{book-judged}
 use Rattle.matching.specs.Matching.{checkMatching}
 use Rattle.repair.specs.Grade.{grade, gradeOf, replyIf}
 use Rattle.repair.specs.Laws.Book.{judged-given, grade-book}
 use Rattle.repair.proofs.robust.grade.Statement.{statement}
 use Rattle.repair.proofs.robust.grade.Tie as tie
 
+load-requires : tie.Need-load-requires
+load-requires c κs = search needs
+
 judge-requires : tie.Need-judge-requires
-judge-requires c κs = search needs
+judge-requires c κs = record { book = _; recorded = c .load .ensures }
 
 enum-told : tie.Need-enum-told
 enum-told c = search needs
@@ -23,30 +27,31 @@ ungraded-requires c κs = search needs
 
 returns : tie.Need-returns
 returns c =
-    let s = c .before .before .before .before .before .before in
+    let s = c .before .before .before .before .before .before .before in
     let e = ap verdictOf (c .before .enum-told2 .given .1) in
     c .ungraded .ensures
     ∙ ap (λ (v : Verdict). replyIf v (grade 0)) e
-    ∙ sym (ap (λ (v : Verdict). replyIf v (grade (gradeOf (now (s .args .book)) (now (s .args .matching))))) (sym (c .before .before .before .judge .ensures .checked) ∙ e))
+    ∙ sym (ap (λ (v : Verdict). replyIf v (grade (gradeOf (now (s .args .book)) (now (s .args .matching))))) (sym (c .before .before .before .judge .ensures _ (c .before .before .before .before .load .ensures) .checked) ∙ e))
 
 -- the matching is stable where the check answered so
-passed : (c : tie.After-enum-told) → checkMatching (now (c .before .before .before .before .before .args .book)) (now (c .before .before .before .before .before .args .matching)) ≡ fine
-passed c = sym (c .before .before .judge .ensures .checked) ∙ ap verdictOf (c .enum-told .given .1)
+passed : (c : tie.After-enum-told) → checkMatching (now (c .before .before .before .before .before .before .args .book)) (now (c .before .before .before .before .before .before .args .matching)) ≡ fine
+passed c = sym (c .before .before .judge .ensures _ (c .before .before .before .load .ensures) .checked) ∙ ap verdictOf (c .enum-told .given .1)
 
 robustness-requires : tie.Need-robustness-requires
-robustness-requires c κs = judged-given (c .before .before .before .before .before .before .before .before .before .before .before .before .before .before .before .before .before .judge .ensures) (passed (c .before .before .before .before .before .before .before .before .before .before .before .before .before .before .before))
+robustness-requires c κs = judged-given (book-judged (c .before .before .before .before .before .before .before .before .before .before .before .before .before .before .before .before .before .before .load .ensures) (c .before .before .before .before .before .before .before .before .before .before .before .before .before .before .before .before .before .judge .ensures)) (passed (c .before .before .before .before .before .before .before .before .before .before .before .before .before .before .before))
 
 returns-2 : tie.Need-returns-2
 returns-2 c =
-    let s = c .before .before .before .before .before .before .before .before .before .before .before .before .before .before .before .before .before .before .before .before .before in
+    let s = c .before .before .before .before .before .before .before .before .before .before .before .before .before .before .before .before .before .before .before .before .before .before in
     let f = passed (c .before .before .before .before .before .before .before .before .before .before .before .before .before .before .before .before) in
-    ap grade (c .robustness .ensures ∙ grade-book (c .before .before .before .before .before .before .before .before .before .before .before .before .before .before .before .before .before .before .judge .ensures) f)
+    ap grade (c .robustness .ensures ∙ grade-book (book-judged (c .before .before .before .before .before .before .before .before .before .before .before .before .before .before .before .before .before .before .before .load .ensures) (c .before .before .before .before .before .before .before .before .before .before .before .before .before .before .before .before .before .before .judge .ensures)) f)
     ∙ sym (ap (λ (v : Verdict). replyIf v (grade (gradeOf (now (s .args .book)) (now (s .args .matching))))) f)
 
 pub grade-spec : {M : Type 1} → statement M
 grade-spec =
     tie.close
     (tie.spec
+    load-requires
     judge-requires
     enum-told
     enum-told-2
