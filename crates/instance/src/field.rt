@@ -58,7 +58,7 @@ pub(crate) fn list_of(b: &[u8], k: usize) -> &[u8]
 }
 
 // How many bytes a book of n men and n women has.
-pub(crate) fn size_of(n: usize) -> usize
+pub fn size_of(n: usize) -> usize
     requires { ⌜ n < 256 ⌝ }
     ensures { λ r. ⌜ r ≡ size n ⌝ }
 {

@@ -14,6 +14,7 @@ ghost use mathlib.Core.Path.{_≡_};
 ghost use Rattle.instance.specs.Verdict.{verdictOf, broken};
 pub use book::check;
 pub use field::book_end;
+pub use field::size_of;
 pub use field::wide;
 pub use lists::first_faulty;
 pub use person::check_man;

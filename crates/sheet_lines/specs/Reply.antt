@@ -3,7 +3,7 @@ use Prim.Native.Nat.{ℕ}
 use mathlib.Core.List.{List}
 use lib.ListN.{length}
 use lib.Dec.{ltb}
-use Rattle.instance.specs.Verdict.{Verdict, fine, refused as broken, rule}
+use Rattle.instance.specs.Verdict.{Verdict, fine, refused, rule}
 use Rattle.matching.specs.Extreme.{filled}
 use Rattle.sheet_lines.specs.declared.Written.{Written}
 use Rattle.sheet_lines.specs.declared.Written.the-variants.{Bytes, Refused}
@@ -12,17 +12,17 @@ use Rattle.sheet_lines.specs.Sheet.{sheetOf}
 -- A reply: how many bytes were written, or the number of a broken rule with its places
 pub data Reply : Type 0 where
   bytes : ℕ → Reply
-  refused : ℕ → ℕ → ℕ → Reply
+  refusal : ℕ → ℕ → ℕ → Reply
 
 -- The reply that the code's answer stands for
 abbrev pub replyOf : Written → Reply
 replyOf (Bytes k) = bytes k
-replyOf (Refused r) = refused (r .number) (r .place) (r .second)
+replyOf (Refused r) = refusal (r .number) (r .place) (r .second)
 
 -- A reply where nothing is refused, and the refusal otherwise
 abbrev pub replyIf : Verdict → Reply → Reply
 replyIf fine r = r
-replyIf (broken number place second) r = refused number place second
+replyIf (refused number place second) r = refusal number place second
 
 -- The verdict on a buffer of so many bytes: 14. A refusal of the book or the matching is no refusal here: its line is the sheet
 abbrev pub checkSheet : List ℕ → ℕ → Verdict

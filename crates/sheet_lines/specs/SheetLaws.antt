@@ -5,7 +5,7 @@ use mathlib.Core.Path.{_≡_}
 use mathlib.Core.List.{List, [], _++_}
 use mathlib.Core.Logic.{_↔_}
 use lib.ListN.{take}
-use Rattle.instance.specs.Verdict.{fine, refused as broken}
+use Rattle.instance.specs.Verdict.{fine, refused}
 use Rattle.instance.specs.Format.{byte, people}
 use Rattle.stable_theory.specs.Repairs.Answer.{Answer, U, D, F}
 use Rattle.stable_theory.specs.Repairs.AnswerLaws.{answer-of}
@@ -91,6 +91,6 @@ module _ (input : List ℕ) where
       }
 
   -- and otherwise it is the line of the refusal
-  pub sheet-refused : {number place second : ℕ} → checkMatching (bookPart input) (matchingPart input) ≡ broken number place second → sheetOf input ≡ refusalLine number
+  pub sheet-refused : {number place second : ℕ} → checkMatching (bookPart input) (matchingPart input) ≡ refused number place second → sheetOf input ≡ refusalLine number
   unfolding sheetOf
   sheet-refused e = rw e

@@ -3,6 +3,7 @@ use crate::grade::grade_of;
 use crate::lines::put_pairs;
 use crate::lines::put_top;
 use instance::Instance;
+use instance::Loaded;
 use matching::Judged;
 use repair::Letter;
 use repair::nearest;
@@ -69,32 +70,36 @@ pub(crate) fn fill_answers<'a>(
 }
 
 // Puts the sheet of a stable matching at the front of `text`.
-pub(crate) fn put_answers(judged: Judged, matching: &[u8], text: &mut [u8]) -> usize
-    requires { ⌜ (Usable (judged .instance)) × (GivenIn (judged .instance) (judged .places)) ⌝ }
-    requires { ⌜ (judged .instance .n ≤ length (now matching)) × (length (sheetOver judged (now matching)) ≤ length (now text)) ⌝ }
-    ensures { λ r. ⌜ Put (now (text .entry)) 0 (sheetOver judged (now (matching .entry))) (now (text .exit)) r ⌝ }
+pub(crate) fn put_answers(
+    loaded: Loaded,
+    judged: Judged,
+    matching: &[u8],
+    text: &mut [u8],
+) -> usize
+    requires { ⌜ (Usable (loaded .instance)) × (GivenIn (loaded .instance) (judged .places)) ⌝ }
+    requires { ⌜ (loaded .instance .n ≤ length (now matching)) × (length (sheetOver loaded judged (now matching)) ≤ length (now text)) ⌝ }
+    ensures { λ r. ⌜ Put (now (text .entry)) 0 (sheetOver loaded judged (now (matching .entry))) (now (text .exit)) r ⌝ }
 {
-    let instance = judged.instance;
-    let n = instance.n;
+    let n = loaded.instance.n;
     let men = judged.places.men;
     let women = judged.places.women;
     let mut letters = [0u8; Instance::LARGEST];
     let mut distances = [0usize; Instance::LARGEST];
     fill_answers(
         n,
-        &instance.man_lengths,
-        &instance.man_lists,
-        &instance.man_ranks,
-        &instance.woman_lengths,
-        &instance.woman_lists,
-        &instance.woman_ranks,
+        &loaded.instance.man_lengths,
+        &loaded.instance.man_lists,
+        &loaded.instance.man_ranks,
+        &loaded.instance.woman_lengths,
+        &loaded.instance.woman_lists,
+        &loaded.instance.woman_ranks,
         men,
         women,
         &mut letters[..],
         &mut distances[..],
     );
     let grade = grade_of(&distances[..], n);
-    let rotations = count(instance);
+    let rotations = count(loaded);
     let end = put_top(text, 0, n, rotations, grade);
     put_pairs(text, end, n, matching, &letters[..], &distances[..])
 }

@@ -4,6 +4,7 @@ use crate::Written;
 use crate::answers::put_answers;
 use crate::lines::put_refused;
 use instance::Checked;
+use instance::Instance;
 use instance::Refusal;
 use instance::book_end;
 use matching::judge;
@@ -39,10 +40,11 @@ fn put_sheet(input: &[u8], text: &mut [u8]) -> usize
     ensures { λ r. ⌜ Put (now (text .entry)) 0 (sheetOf (now (input .entry))) (now (text .exit)) r ⌝ }
 {
     let end = book_end(input);
-    let judged = judge(&input[..end], &input[end..]);
+    let loaded = Instance::load(&input[..end]);
+    let judged = judge(loaded, &input[end..]);
     let checked = judged.checked;
     let Checked::Fine = checked else {
         return put_refused(text, checked);
     };
-    put_answers(judged, &input[end..], text)
+    put_answers(loaded, judged, &input[end..], text)
 }

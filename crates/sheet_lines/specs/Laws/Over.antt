@@ -14,12 +14,13 @@ use Rattle.stable_theory.specs.Repairs.Answer.{Answer, U, D, F, answerOf, Answe
 use Rattle.stable_theory.specs.Repairs.AnswerLaws.{answer-of}
 use Rattle.stable_theory.specs.Rotations.Numbering.{total}
 use Rattle.stable_theory.specs.Rotations.RotationAlike.{rotations-alike}
+use Rattle.instance.specs.declared.record.Loaded.{Loaded}
 use Rattle.matching.specs.declared.Judged.{Judged}
 use Rattle.matching.specs.BookMarket.{market, market-proper}
 use Rattle.matching.specs.Matching.{vectorOf, checkMatching}
 use Rattle.matching.specs.StableCheck.{StableIn, fine-stable}
 use Rattle.matching.specs.StableVector.{vector-stable}
-use Rattle.matching.specs.Judge.{JudgedIs}
+use Rattle.matching.specs.Judge.{BookJudged}
 use Rattle.matching.specs.JudgedStable.{judged-is-stable}
 use Rattle.matching.specs.Usable.{marketIn, Usable, usable}
 use Rattle.repair.specs.declared.answer.Nearest.{Nearest}
@@ -70,10 +71,10 @@ distance-far S (nearer-up K f) = moved-vector (S .matching) (K .parts .stable)
 distance-far S (nearer-down K f) = moved-vector (S .matching) (K .parts .stable)
 distance-far S (neither h k) = refl
 
-module _ {b m : List ℕ} {j : Judged} (J : JudgedIs b m j) (f : checkMatching b m ≡ fine) where
+module _ {b m : List ℕ} {L : Loaded} {j : Judged} (J : BookJudged b m L j) (f : checkMatching b m ≡ fine) where
   -- the market of the record, the places, and the answer for s
   abbrev I : Market
-  I = marketIn (j .instance)
+  I = marketIn (L .instance)
 
   abbrev p : ℕ → ℕ
   p = vec (j .places .men)
@@ -87,7 +88,7 @@ module _ {b m : List ℕ} {j : Judged} (J : JudgedIs b m j) (f : checkMatching b
       record { letter = codeLetter (answer s); distance = farOf I p (answer s); men = values (vectorAfter p (answer s)) 0 largestN }
 
   -- is said of the book too
-  said-book : {s : ℕ} → s < j .instance .n → Shows (market b) (vectorOf b m) (answerFor b m s) (said s)
+  said-book : {s : ℕ} → s < L .instance .n → Shows (market b) (vectorOf b m) (answerFor b m s) (said s)
   said-book {s} u =
       shows-book J f u
       (record {
@@ -98,30 +99,30 @@ module _ {b m : List ℕ} {j : Judged} (J : JudgedIs b m j) (f : checkMatching b
       })
 
   -- so the letter and the distance over the record are those of the bytes
-  letter-book : {s : ℕ} → s < j .instance .n → letterIn I p s ≡ letterOf (answerFor b m s)
+  letter-book : {s : ℕ} → s < L .instance .n → letterIn I p s ≡ letterOf (answerFor b m s)
   letter-book {s} u = sym (letter-byte (answer s)) ∙ ap letterByte (said-book u .letter) ∙ letter-byte (answerFor b m s)
 
-  distance-book : {s : ℕ} → s < j .instance .n → distanceIn I p s ≡ distanceOf b m (answerFor b m s)
+  distance-book : {s : ℕ} → s < L .instance .n → distanceIn I p s ≡ distanceOf b m (answerFor b m s)
   distance-book {s} u =
       let S = fine-stable b m .0 f in
       let v : s < people b = omega (arith, judged-number J f) in
       said-book u .distance ∙ sym (distance-far S (answer-of (market-proper (S .matching .formed)) (λ i. 1) (vector-stable S) (holds S v)))
 
   -- and the sheet over the record is the sheet of the bytes
-  pub sheet-over : total I ≡ total (market b) → sheetOver j m ≡ answers b m
+  pub sheet-over : total I ≡ total (market b) → sheetOver L j m ≡ answers b m
   unfolding sheetIn answers
   sheet-over t =
       rw (t, grade-book J f, ← judged-number J f)
-      (ap (λ (l : List ℕ). topLine (j .instance .n) (total (market b)) (gradeOf b m) ++ l)
-      (lines-same (j .instance .n) (λ s u. (refl, letter-book u, distance-book u))))
+      (ap (λ (l : List ℕ). topLine (L .instance .n) (total (market b)) (gradeOf b m) ++ l)
+      (lines-same (L .instance .n) (λ s u. (refl, letter-book u, distance-book u))))
 
   -- what the check leaves is what the code asks
-  pub record-usable : Usable (j .instance)
+  pub record-usable : Usable (L .instance)
   record-usable =
-      let S = judged-is-stable J (J .checked ∙ f) in
+      let S = judged-is-stable (J .loaded) (J .judged) (J .judged .checked ∙ f) in
       usable (S .matching .matching .formed) (S .tables)
 
-  pub matching-long : j .instance .n ≤ length m
+  pub matching-long : L .instance .n ≤ length m
   matching-long = omega (arith, judged-number J f, fine-stable b m .0 f .matching .long)
 
   -- and the record has as many rotations as the book

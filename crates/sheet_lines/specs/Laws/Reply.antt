@@ -11,13 +11,13 @@ use Rattle.instance.specs.Verdict.{fine, rule}
 use Rattle.sheet_lines.specs.declared.Written.{Written}
 use Rattle.sheet_lines.specs.declared.Written.the-variants.{Bytes}
 use Rattle.sheet_lines.specs.Sheet.{sheetOf}
-use Rattle.sheet_lines.specs.Reply.{bytes, refused, replyOf, replyIf, sheetReply, sheetBuffer}
+use Rattle.sheet_lines.specs.Reply.{bytes, refusal, replyOf, replyIf, sheetReply, sheetBuffer}
 use Rattle.sheet_lines.specs.Put.{Put}
 use Rattle.sheet_lines.specs.Laws.Put.{put-take}
 
 module _ (input out : List ℕ) {text now : List ℕ} {len : ℕ} (P : Put text 0 (sheetOf input) now len) where
   -- the buffer is too short for the sheet
-  pub sheet-refused : length out < len → (refused 14 0 0 ≡ sheetReply input (length out)) × (out ≡ sheetBuffer input out)
+  pub sheet-refused : length out < len → (refusal 14 0 0 ≡ sheetReply input (length out)) × (out ≡ sheetBuffer input out)
   sheet-refused h = rw (lt-ltb (length out) (length (sheetOf input)) (omega (arith, P .next))) (refl, refl)
 
   -- or it is long enough, and the sheet is copied
@@ -37,6 +37,6 @@ bytes-within input room {w} {k} e f =
     let q : k ≡ length (sheetOf input) = cc in
     omega arith)
     (λ h.
-    let g : bytes k ≡ refused 14 0 0 = sym (ap replyOf f) ∙ (e ∙ ap (λ t. replyIf (rule t 14 0 fine) (bytes (length (sheetOf input)))) (lt-ltb _ _ h)) in
+    let g : bytes k ≡ refusal 14 0 0 = sym (ap replyOf f) ∙ (e ∙ ap (λ t. replyIf (rule t 14 0 fine) (bytes (length (sheetOf input)))) (lt-ltb _ _ h)) in
     let z : _≡_ {A = ℕ} 0 1 = cc in
     absurd (omega arith))

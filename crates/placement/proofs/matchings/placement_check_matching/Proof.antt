@@ -1,0 +1,16 @@
+-- `placement_check_matching` meets its contract: its reply is the one that the call below gives. Assumes nothing.
+use borrow.Author.Needs.{needs}
+use Rattle.placement.proofs.matchings.placement_check_matching.Statement.{statement}
+use Rattle.placement.proofs.matchings.placement_check_matching.Tie as tie
+
+check-requires : tie.Need-check-requires
+check-requires c κs = search needs
+
+verdict-reply-requires : tie.Need-verdict-reply-requires
+verdict-reply-requires c κs = search needs
+
+returns : tie.Need-returns
+returns c = cc
+
+pub placement-check-matching-spec : {M : Type 1} → statement M
+placement-check-matching-spec = tie.close (tie.spec check-requires verdict-reply-requires returns)

@@ -1,0 +1,21 @@
+-- `placement_precedes` meets its contract: its reply is the one that the call below gives. Assumes nothing.
+use borrow.Author.Needs.{needs}
+use Rattle.rotations.specs.Precedence.{checkNumbers, bookPrecedes}
+use Rattle.placement.specs.Answers.{precedence-for}
+use Rattle.placement.proofs.rotation_lists.placement_precedes.Statement.{statement}
+use Rattle.placement.proofs.rotation_lists.placement_precedes.Tie as tie
+
+precedes-requires : tie.Need-precedes-requires
+precedes-requires c κs = search needs
+
+precedence-reply-requires : tie.Need-precedence-reply-requires
+precedence-reply-requires c κs = search needs
+
+returns : tie.Need-returns
+returns c =
+    let a = c .before .before .before .args in
+    let e = precedence-for (checkNumbers (a .book .now) (a .first) (a .second)) (bookPrecedes (a .book .now) (a .first) (a .second)) in
+    cc
+
+pub placement-precedes-spec : {M : Type 1} → statement M
+placement-precedes-spec = tie.close (tie.spec precedes-requires precedence-reply-requires returns)

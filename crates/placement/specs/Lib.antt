@@ -1,0 +1,3 @@
+-- What the replies of the C interface say. Assumes nothing.
+pub mod Replies
+pub mod Answers
