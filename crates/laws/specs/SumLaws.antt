@@ -1,6 +1,6 @@
 -- Laws of sums: order, equality, one changed term, and sums over the numbers that pass a test. Assumes nothing.
 use Prim.Native.Nat.{ℕ, zero, suc, _+_, _≤_, _<_}
-use mathlib.Core.Path.{_≡_, refl}
+use mathlib.Core.Path.{_≡_, refl, ap}
 use mathlib.Core.Bool.{Bool, true, false}
 use native.Mathlib.Omega.{arith}
 use Rattle.laws.specs.Choice.{pick, same, tested}
@@ -46,3 +46,11 @@ count-most (suc n) p = omega (arith, count-most n p, one (p n))
     one : (t : Bool) → pick t 1 0 ≤ 1
     one true = omega arith
     one false = omega arith
+
+-- where all n numbers below n are counted, each passes
+pub count-all : (n : ℕ) (p : ℕ → Bool) → count n p ≡ n → (i : ℕ) → i < n → p i ≡ true
+count-all zero p e i u = absurd (omega arith)
+count-all (suc n) p e i u =
+    tested (p n)
+    (λ t. same i n (λ q. rw q t) (λ q. count-all n p (omega (arith, ap (λ (b : Bool). pick {A = ℕ} b 1 0) t)) i (omega arith)))
+    (λ f. absurd (omega (arith, count-most n p, ap (λ (b : Bool). pick {A = ℕ} b 1 0) f)))

@@ -70,12 +70,7 @@ pub(crate) fn fill_answers<'a>(
 }
 
 // Puts the sheet of a stable matching at the front of `text`.
-pub(crate) fn put_answers(
-    loaded: Loaded,
-    judged: Judged,
-    matching: &[u8],
-    text: &mut [u8],
-) -> usize
+pub(crate) fn put_answers(loaded: Loaded, judged: Judged, matching: &[u8], text: &mut [u8]) -> usize
     requires { ⌜ (Usable (loaded .instance)) × (GivenIn (loaded .instance) (judged .places)) ⌝ }
     requires { ⌜ (loaded .instance .n ≤ length (now matching)) × (length (sheetOver loaded judged (now matching)) ≤ length (now text)) ⌝ }
     ensures { λ r. ⌜ Put (now (text .entry)) 0 (sheetOver loaded judged (now (matching .entry))) (now (text .exit)) r ⌝ }
