@@ -1,7 +1,7 @@
 // The format of an instance, document 01's book: the check (rules 1 to 7), one person's list, the writer,
 // and the record whose tables the other crates work on.
 //
-// Contracts cite specs/, which follows document 01 paragraph by paragraph; specs/Laws/ has what the proofs cite. No public function has
+// Contracts cite specs/, which follows document 01 paragraph by paragraph; specs/Laws/ has what the proofs cite. No function on bytes has
 // a `requires`.
 mod book;
 mod field;

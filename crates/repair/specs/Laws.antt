@@ -1,5 +1,6 @@
 -- What the proofs cite: from the vectors of the code to the bytes of the definitions. Assumes nothing.
 pub mod Tried
+pub mod Ends
 pub mod Pushing
 pub mod Nearest
 pub mod Grade

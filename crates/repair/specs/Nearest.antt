@@ -12,6 +12,7 @@ use Rattle.stable_theory.specs.Repairs.Repair.{weight}
 use Rattle.stable_theory.specs.Repairs.Answer.{Answer, U, D, F, answerOf}
 use Rattle.deferred.specs.Lists.{marketOf, Tables}
 use Rattle.matching.specs.declared.Places.{Places}
+use Rattle.repair.specs.Tried.{Ends}
 use Rattle.repair.specs.declared.answer.Letter.{Letter}
 use Rattle.repair.specs.declared.answer.Letter.the-variants.{Up, Down, Fixed}
 use Rattle.repair.specs.declared.answer.Nearest.{Nearest}
@@ -25,9 +26,19 @@ pub record Given (n : ℕ) (man-lengths man-lists man-ranks woman-lengths woman-
   pub mirror : Mirror (marketOf n n man-lengths man-lists woman-lengths woman-lists) (vec men) (vec women)
   pub placed : {i : ℕ} → i < n → vec men i < vec man-lengths i
 
+-- and a place for each man and woman after which no stable matching has them
+pub record GivenEnds (n : ℕ) (man-lengths man-lists man-ranks woman-lengths woman-lists woman-ranks men women man-ends woman-ends : List ℕ) : Type 0 where
+  pub given : Given n man-lengths man-lists man-ranks woman-lengths woman-lists woman-ranks men women
+  pub men-end : Ends (marketOf n n man-lengths man-lists woman-lengths woman-lists) (vec men) (vec man-ends)
+  pub women-end : Ends (marketOf n n woman-lengths woman-lists man-lengths man-lists) (vec women) (vec woman-ends)
+
 -- the same of a record and the places of a matching
 abbrev pub GivenIn : Instance → Places → Type 0
 GivenIn r p = Given (r .n) (r .«man_lengths») (r .«man_lists») (r .«man_ranks») (r .«woman_lengths») (r .«woman_lists») (r .«woman_ranks») (p .men) (p .women)
+
+abbrev pub EndsIn : Instance → Places → List ℕ → List ℕ → Type 0
+EndsIn r p man-ends woman-ends =
+    GivenEnds (r .n) (r .«man_lengths») (r .«man_lists») (r .«man_ranks») (r .«woman_lengths») (r .«woman_lists») (r .«woman_ranks») (p .men) (p .women) man-ends woman-ends
 
 -- The letter of an answer, as the code has it
 abbrev pub letterOf : Answer → Letter

@@ -107,6 +107,7 @@ fn nearest_in(loaded: Loaded, judged: Judged, s: usize) -> Nearest
 {
     let men = judged.places.men;
     let women = judged.places.women;
+    let none = [65535u16; Instance::LARGEST];
     nearest(
         loaded.instance.n,
         &loaded.instance.man_lengths,
@@ -117,6 +118,8 @@ fn nearest_in(loaded: Loaded, judged: Judged, s: usize) -> Nearest
         &loaded.instance.woman_ranks,
         men,
         women,
+        none,
+        none,
         s,
     )
 }

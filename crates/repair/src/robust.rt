@@ -4,6 +4,8 @@ use crate::vectors::nearest;
 use instance::Checked;
 use instance::Instance;
 use matching::judge;
+use matching::man_optimal_places;
+use matching::woman_optimal_places;
 ghost use mathlib.Core.Path.{_≡_};
 ghost use Prim.Native.Nat.{_-_};
 ghost use Rattle.laws.specs.Largest.{largest};
@@ -11,7 +13,7 @@ ghost use Rattle.laws.specs.Values.{vec};
 ghost use Rattle.deferred.specs.Lists.{marketOf};
 ghost use Rattle.instance.specs.Verdict.{verdictOf};
 ghost use Rattle.repair.specs.Grade.{grade, replyOf, replyIf, gradeReply};
-ghost use Rattle.repair.specs.Nearest.{Given, costs};
+ghost use Rattle.repair.specs.Nearest.{GivenEnds, costs};
 
 // The grade of a matching of a book: the largest distance of an answer, less 1, over the pairs that are not fixed; or the first rule that
 // is broken and where.
@@ -26,6 +28,10 @@ pub fn grade(book: &[u8], matching: &[u8]) -> Graded
     };
     let men = judged.places.men;
     let women = judged.places.women;
+    let worst = woman_optimal_places(loaded);
+    let best = man_optimal_places(loaded);
+    let man_ends = worst.men;
+    let woman_ends = best.women;
     Graded::Grade(robustness(
         loaded.instance.n,
         &loaded.instance.man_lengths,
@@ -36,6 +42,8 @@ pub fn grade(book: &[u8], matching: &[u8]) -> Graded
         &loaded.instance.woman_ranks,
         men,
         women,
+        man_ends,
+        woman_ends,
     ))
 }
 
@@ -70,8 +78,10 @@ fn robustness<'a>(
     wranks: &'a [u16],
     men: [u16; Instance::LARGEST],
     women: [u16; Instance::LARGEST],
+    man_ends: [u16; Instance::LARGEST],
+    woman_ends: [u16; Instance::LARGEST],
 ) -> usize
-    requires { ⌜ Given n (now mlens) (now mlists) (now mranks) (now wlens) (now wlists) (now wranks) men women ⌝ }
+    requires { ⌜ GivenEnds n (now mlens) (now mlists) (now mranks) (now wlens) (now wlists) (now wranks) men women «man_ends» «woman_ends» ⌝ }
     ensures { λ r. ⌜ r ≡ largest n (costs (marketOf n n (now (mlens .entry)) (now (mlists .entry)) (now (wlens .entry)) (now (wlists .entry))) (vec men)) ⌝ }
 {
     let mut most = 0;
@@ -87,6 +97,8 @@ fn robustness<'a>(
             wranks,
             men,
             women,
+            man_ends,
+            woman_ends,
             s,
         );
         let besides = less_one(found.distance);

@@ -16,8 +16,8 @@ ghost use Rattle.stable_theory.specs.Repairs.Answer.{answerOf};
 ghost use Rattle.stable_theory.specs.Repairs.Repair.{moved};
 ghost use Rattle.deferred.specs.Lists.{marketOf, Tables};
 ghost use Rattle.deferred.specs.Push.{Pushable};
-ghost use Rattle.repair.specs.Tried.{Tries, Measured};
-ghost use Rattle.repair.specs.Nearest.{Given, Shows};
+ghost use Rattle.repair.specs.Tried.{Last, Tries, Measured};
+ghost use Rattle.repair.specs.Nearest.{GivenEnds, Shows};
 
 // What a push leaves: whether it ended in a stable matching, and the two vectors.
 struct Vectors {
@@ -26,7 +26,7 @@ struct Vectors {
     receivers: [u16; Instance::LARGEST],
 }
 
-// Pushes proposer s on by one place, from copies of the two vectors.
+// Pushes proposer s on by one place, from copies of the two vectors, unless he stands at `end`, after which no stable matching has him.
 fn pushed<'a>(
     n: usize,
     plens: &'a [u16],
@@ -37,13 +37,22 @@ fn pushed<'a>(
     p: [u16; Instance::LARGEST],
     t: [u16; Instance::LARGEST],
     s: usize,
+    end: u16,
 ) -> Vectors
     requires { ⌜ Tables n n (now plens) (now plists) (now rlens) (now rlists) (now ranks) ⌝ }
     requires { ⌜ n ≤ length p ⌝ }
     requires { ⌜ Pushable (marketOf n n (now plens) (now plists) (now rlens) (now rlists)) (vec p) (vec t) s ⌝ }
     requires { ⌜ vec p s < vec (now plens) s ⌝ }
+    requires { ⌜ Last (marketOf n n (now plens) (now plists) (now rlens) (now rlists)) (vec p) s end ⌝ }
     ensures { λ r. ⌜ Tries (marketOf n n (now (plens .entry)) (now (plists .entry)) (now (rlens .entry)) (now (rlists .entry))) (vec p) s (vec (r .proposers)) (vec (r .receivers)) (r .found) ⌝ }
 {
+    if p[s] == end {
+        return Vectors {
+            found: false,
+            proposers: p,
+            receivers: t,
+        };
+    }
     let mut proposers = p;
     let mut receivers = t;
     let found = push(
@@ -104,15 +113,41 @@ pub fn nearest<'a>(
     wranks: &'a [u16],
     men: [u16; Instance::LARGEST],
     women: [u16; Instance::LARGEST],
+    man_ends: [u16; Instance::LARGEST],
+    woman_ends: [u16; Instance::LARGEST],
     s: usize,
 ) -> Nearest
-    requires { ⌜ Given n (now mlens) (now mlists) (now mranks) (now wlens) (now wlists) (now wranks) men women ⌝ }
+    requires { ⌜ GivenEnds n (now mlens) (now mlists) (now mranks) (now wlens) (now wlists) (now wranks) men women «man_ends» «woman_ends» ⌝ }
     requires { ⌜ s < n ⌝ }
     ensures { λ r. ⌜ Shows (marketOf n n (now (mlens .entry)) (now (mlists .entry)) (now (wlens .entry)) (now (wlists .entry))) (vec men) (answerOf (marketOf n n (now (mlens .entry)) (now (mlists .entry)) (now (wlens .entry)) (now (wlists .entry))) (λ i. 1) (vec men) s) r ⌝ }
 {
     let w = entry(mlists, n, s, wide(men[s]));
-    let down = pushed(n, mlens, mlists, wlens, wlists, wranks, men, women, s);
-    let up = pushed(n, wlens, wlists, mlens, mlists, mranks, women, men, w);
+    let man_end = man_ends[s];
+    let woman_end = woman_ends[w];
+    let down = pushed(
+        n,
+        mlens,
+        mlists,
+        wlens,
+        wlists,
+        wranks,
+        men,
+        women,
+        s,
+        man_end,
+    );
+    let up = pushed(
+        n,
+        wlens,
+        wlists,
+        mlens,
+        mlists,
+        mranks,
+        women,
+        men,
+        w,
+        woman_end,
+    );
     let below = distance(n, down.found, &men, &down.proposers);
     let above = distance(n, up.found, &men, &up.receivers);
     if below < above {

@@ -5,6 +5,8 @@ use crate::lines::put_top;
 use instance::Instance;
 use instance::Loaded;
 use matching::Judged;
+use matching::man_optimal_places;
+use matching::woman_optimal_places;
 use repair::Letter;
 use repair::nearest;
 use rotations::count;
@@ -14,7 +16,7 @@ ghost use lib.ListN.{length};
 ghost use Rattle.laws.specs.Values.{vec};
 ghost use Rattle.deferred.specs.Lists.{marketOf};
 ghost use Rattle.matching.specs.Usable.{Usable};
-ghost use Rattle.repair.specs.Nearest.{Given, GivenIn};
+ghost use Rattle.repair.specs.Nearest.{GivenEnds};
 ghost use Rattle.sheet_lines.specs.Put.{Put};
 ghost use Rattle.sheet_lines.specs.Answered.{letterByte, Answered};
 ghost use Rattle.sheet_lines.specs.Over.{sheetOver};
@@ -41,10 +43,12 @@ pub(crate) fn fill_answers<'a>(
     wranks: &'a [u16],
     men: [u16; Instance::LARGEST],
     women: [u16; Instance::LARGEST],
+    man_ends: [u16; Instance::LARGEST],
+    woman_ends: [u16; Instance::LARGEST],
     letters: &mut [u8],
     distances: &mut [usize],
 )
-    requires { ⌜ Given n (now mlens) (now mlists) (now mranks) (now wlens) (now wlists) (now wranks) men women ⌝ }
+    requires { ⌜ GivenEnds n (now mlens) (now mlists) (now mranks) (now wlens) (now wlists) (now wranks) men women «man_ends» «woman_ends» ⌝ }
     requires { ⌜ (n ≤ length (now letters)) × (n ≤ length (now distances)) ⌝ }
     ensures { λ _. ⌜ Answered (marketOf n n (now (mlens .entry)) (now (mlists .entry)) (now (wlens .entry)) (now (wlists .entry))) (vec men) n n (now (letters .exit)) (now (distances .exit)) ⌝ }
 {
@@ -60,6 +64,8 @@ pub(crate) fn fill_answers<'a>(
             wranks,
             men,
             women,
+            man_ends,
+            woman_ends,
             s,
         );
         let letter = found.letter;
@@ -78,6 +84,10 @@ pub(crate) fn put_answers(loaded: Loaded, judged: Judged, matching: &[u8], text:
     let n = loaded.instance.n;
     let men = judged.places.men;
     let women = judged.places.women;
+    let worst = woman_optimal_places(loaded);
+    let best = man_optimal_places(loaded);
+    let man_ends = worst.men;
+    let woman_ends = best.women;
     let mut letters = [0u8; Instance::LARGEST];
     let mut distances = [0usize; Instance::LARGEST];
     fill_answers(
@@ -90,6 +100,8 @@ pub(crate) fn put_answers(loaded: Loaded, judged: Judged, matching: &[u8], text:
         &loaded.instance.woman_ranks,
         men,
         women,
+        man_ends,
+        woman_ends,
         &mut letters[..],
         &mut distances[..],
     );

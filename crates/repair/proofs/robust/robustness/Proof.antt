@@ -14,11 +14,11 @@ use Rattle.repair.proofs.robust.robustness.Statement.{statement}
 use Rattle.repair.proofs.robust.robustness.Tie as tie
 
 abbrev Inv-loop : tie.InvT-loop
-Inv-loop n mlens mlists mranks wlens wlists wranks men women most₀ s₀ most s =
+Inv-loop n mlens mlists mranks wlens wlists wranks men women ends ends′ most₀ s₀ most s =
     (s ≤ n) × (most ≡ largest s (costs (marketOf n n mlens mlists wlens wlists) (vec men)))
 
 abbrev μ-loop : tie.MeasureT-loop
-μ-loop n mlens mlists mranks wlens wlists wranks men women most₀ s₀ most s = n - s
+μ-loop n mlens mlists mranks wlens wlists wranks men women ends ends′ most₀ s₀ most s = n - s
 
 -- the costs of the men
 abbrev counted : tie.Start Inv-loop μ-loop → ℕ → ℕ
