@@ -36,7 +36,7 @@ use Rattle.repair.specs.Repair.{answerFor}
 use Rattle.repair.specs.Grade.{gradeOf}
 use Rattle.repair.specs.Laws.Grade.{costs-alike}
 use Rattle.repair.specs.Nearest.{GivenIn, EndsIn, costs, Shows}
-use Rattle.repair.specs.Laws.Ends.{men-ends, women-ends}
+use Rattle.repair.specs.Laws.Ends.{given-extremes}
 use Rattle.repair.specs.Laws.Nearest.{shows-same, shows-alike}
 
 module _ {b m : List ℕ} {L : Loaded} {j : Judged} (J : BookJudged b m L j) (f : checkMatching b m ≡ fine) where
@@ -98,9 +98,7 @@ module _ {b m : List ℕ} {L : Loaded} {j : Judged} (J : BookJudged b m L j) (f 
   -- the extreme matchings have the places after which no stable matching has anybody
   pub extreme-ends : {worst best : Places} → PlacesOf (L .instance) (receiver-optimal (marketIn (L .instance))) worst → PlacesOf (L .instance) (proposer-optimal (marketIn (L .instance))) best →
       EndsIn (L .instance) (j .places) (worst .men) (best .women)
-  extreme-ends W B =
-      let M = judged-usable .men .proper in
-      record { given = judged-given; men-end = men-ends M (vec (j .places .men)) (W .same); women-end = women-ends M (vec (j .places .women)) (B .same) (B .mirror) }
+  extreme-ends W B = given-extremes judged-usable judged-given W B
 
   -- what the search says over the record is the answer for the bytes
   pub shows-book : {s : ℕ} {r : Nearest} → s < L .instance .n → Shows I (vec (j .places .men)) (answerOf I (λ i. 1) (vec (j .places .men)) s) r → Shows (market b) (vectorOf b m) (answerFor b m s) r

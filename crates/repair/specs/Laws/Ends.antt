@@ -13,8 +13,12 @@ use Rattle.stable_theory.specs.Stable.Holding.{Same}
 use Rattle.stable_theory.specs.Stable.Mirror.{mirror-of, mirror-back, mirror-order, stable-across}
 use Rattle.stable_theory.specs.Least.Optimal.{proposer-optimal, receiver-optimal, proposer-optimal-first, receiver-optimal-last}
 use Rattle.instance.specs.Format.{largest}
+use Rattle.instance.specs.declared.record.Instance.{Instance}
+use Rattle.matching.specs.declared.Places.{Places}
+use Rattle.matching.specs.Usable.{Usable, marketIn}
+use Rattle.matching.specs.ExtremePlaces.{PlacesOf}
 use Rattle.repair.specs.Tried.{Last, Ends, Tries}
-use Rattle.repair.specs.Nearest.{Given, GivenEnds}
+use Rattle.repair.specs.Nearest.{Given, GivenEnds, GivenIn, EndsIn}
 
 -- a proposer at his end is not tried: there is no repair down
 pub tries-last : {I : Market} {p v t : ℕ → ℕ} {s end : ℕ} → Last I p s end → p s ≡ end → Tries I p s v t false
@@ -40,6 +44,14 @@ women-ends {I} M t {best} {e} same sides =
     let X = mirror-of (exchanged M) (K .settled) in
     let R = stable-across (exchanged M) X K in
     mirror-order M sides (mirror-back X) R (λ i u. omega (arith, same i u, proposer-optimal-first M (R .settled) i u)))
+
+-- so over a record
+pub given-extremes :
+    {r : Instance} {p worst best : Places} → Usable r → GivenIn r p → PlacesOf r (receiver-optimal (marketIn r)) worst → PlacesOf r (proposer-optimal (marketIn r)) best →
+    EndsIn r p (worst .men) (best .women)
+given-extremes {p = p} U G W B =
+    let M = U .men .proper in
+    record { given = G; men-end = men-ends M (vec (p .men)) (W .same); women-end = women-ends M (vec (p .women)) (B .same) (B .mirror) }
 
 -- and so have places that nobody has
 pub no-ends : {I : Market} {p e : ℕ → ℕ} → ((i : ℕ) → i < I .proposers .size → p i < e i) → Ends I p e
