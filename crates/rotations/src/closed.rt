@@ -7,18 +7,18 @@ use instance::Instance;
 use matching::Places;
 ghost use mathlib.Core.Path.{_≡_};
 ghost use mathlib.Core.Bool.{not};
-ghost use Prim.Native.Nat.{_*_, _≤_, _<_};
+ghost use Prim.Native.Nat.{ℕ, _*_, _≤_, _<_};
 ghost use lib.Dec.{ltb, eqb};
-ghost use lib.ListN.{length};
+ghost use lib.ListN.{length, take};
 ghost use Rattle.laws.specs.Choice.{pick, either};
 ghost use Rattle.laws.specs.First.{some};
 ghost use Rattle.laws.specs.Values.{vec};
 ghost use Rattle.instance.specs.Format.{byte, largest};
 ghost use Rattle.stable_theory.specs.Stable.Vector.{Within};
-ghost use Rattle.stable_theory.specs.Least.Optimal.{proposer-optimal};
+ghost use Rattle.deferred.specs.Lists.{Tables, marketOf};
 ghost use Rattle.matching.specs.Usable.{Usable, marketIn};
-ghost use Rattle.matching.specs.ExtremePlaces.{PlacesOf};
 ghost use Rattle.rotations.specs.Sets.{member};
+ghost use Rattle.rotations.specs.Laws.RecordOf.{recordOf};
 ghost use Rattle.rotations.specs.Laws.Written.{rotationIn};
 ghost use Rattle.rotations.specs.Laws.ListRead.{startIn, pastIn, Readable};
 ghost use Rattle.rotations.specs.Laws.EliminateCode.{Eliminable};
@@ -125,22 +125,29 @@ fn same_places(n: usize, p: &[u16], q: &[u16]) -> bool
 }
 
 // Whether places are stable: whether deferred acceptance from them leaves them as they are and calls them stable.
-fn is_stable(instance: Instance, men: [u16; Instance::LARGEST]) -> bool
-    requires { ⌜ Usable instance ⌝ }
-    requires { ⌜ Within (marketIn instance) (vec men) × (length men ≡ largest) ⌝ }
-    ensures { λ r. ⌜ StableIs (marketIn instance) (vec men) r ⌝ }
+fn is_stable<'a>(
+    n: usize,
+    mlens: &'a [u16],
+    mlists: &'a [u16],
+    wlens: &'a [u16],
+    wlists: &'a [u16],
+    wranks: &'a [u16],
+    men: [u16; Instance::LARGEST],
+) -> bool
+    requires { ⌜ Tables n n (now mlens) (now mlists) (now wlens) (now wlists) (now wranks) × (n ≤ largest) ⌝ }
+    requires { ⌜ Within (marketOf n n (now mlens) (now mlists) (now wlens) (now wlists)) (vec men) × (length men ≡ largest) ⌝ }
+    ensures { λ r. ⌜ StableIs (marketOf n n (now (mlens .entry)) (now (mlists .entry)) (now (wlens .entry)) (now (wlists .entry))) (vec men) r ⌝ }
 {
-    let n = instance.n;
     let mut p = men;
     let mut t = [0u16; Instance::LARGEST];
     let stable = deferred::least(
         n,
         n,
-        &instance.man_lengths,
-        &instance.man_lists,
-        &instance.woman_lengths,
-        &instance.woman_lists,
-        &instance.woman_ranks,
+        mlens,
+        mlists,
+        wlens,
+        wlists,
+        wranks,
         &mut p[..n],
         &mut t[..n],
     );
@@ -151,47 +158,44 @@ fn is_stable(instance: Instance, men: [u16; Instance::LARGEST]) -> bool
 }
 
 // The places of a set: its rotations eliminated from the student-best places.
-pub(crate) fn set_places(
-    instance: Instance,
+pub(crate) fn set_places<'a>(
+    n: usize,
+    mranks: &'a [u16],
+    wranks: &'a [u16],
     places: Places,
     list: &[u16],
     set: &[u8],
 ) -> [u16; Instance::LARGEST]
-    requires { ⌜ Usable instance ⌝ }
-    requires { ⌜ PlacesOf instance (proposer-optimal (marketIn instance)) places ⌝ }
-    requires { ⌜ Readable (instance .n) (length (now set)) (now list) ⌝ }
-    ensures { λ r. ⌜ SetPlaces instance (now (list .entry)) (now (set .entry)) (places .men) r ⌝ }
+    requires { ⌜ SetReady n (length (now set)) (now mranks) (now wranks) (now list) (take n (places .men)) (take n (places .women)) ⌝ }
+    requires { ⌜ (n ≤ largest) × (length (places .men) ≡ largest) × (length (places .women) ≡ largest) × ((i : ℕ) → n ≤ i → vec (places .men) i ≡ 0) ⌝ }
+    ensures { λ r. ⌜ SetPlaces n (now (mranks .entry)) (now (list .entry)) (now (set .entry)) (places .men) r ⌝ }
 {
-    let n = instance.n;
     let mut men = places.men;
     let mut women = places.women;
-    eliminate_set(
-        n,
-        &instance.man_ranks,
-        &instance.woman_ranks,
-        list,
-        set,
-        &mut men[..n],
-        &mut women[..n],
-    );
+    eliminate_set(n, mranks, wranks, list, set, &mut men[..n], &mut women[..n]);
     men
 }
 
 // Whether places are stable and past the rotations of a set and no others.
-pub(crate) fn closes(
-    instance: Instance,
+pub(crate) fn closes<'a>(
+    n: usize,
+    mlens: &'a [u16],
+    mlists: &'a [u16],
+    mranks: &'a [u16],
+    wlens: &'a [u16],
+    wlists: &'a [u16],
+    wranks: &'a [u16],
     list: &[u16],
     set: &[u8],
     men: [u16; Instance::LARGEST],
 ) -> bool
-    requires { ⌜ Usable instance ⌝ }
-    requires { ⌜ Within (marketIn instance) (vec men) × (length men ≡ largest) ⌝ }
-    requires { ⌜ Readable (instance .n) (length (now set)) (now list) ⌝ }
-    ensures { λ r. ⌜ ClosesIs (marketIn instance) (vec men) (length (now (set .entry))) (λ k. pastIn (instance .n) (instance .«man_ranks») (now (list .entry)) (startIn (now (list .entry)) k) (vec men)) (member (now (set .entry))) r ⌝ }
+    requires { ⌜ Usable (recordOf n (now mlens) (now mlists) (now mranks) (now wlens) (now wlists) (now wranks)) ⌝ }
+    requires { ⌜ Within (marketIn (recordOf n (now mlens) (now mlists) (now mranks) (now wlens) (now wlists) (now wranks))) (vec men) × (length men ≡ largest) ⌝ }
+    requires { ⌜ Readable n (length (now set)) (now list) ⌝ }
+    ensures { λ r. ⌜ ClosesIs (marketIn (recordOf n (now (mlens .entry)) (now (mlists .entry)) (now (mranks .entry)) (now (wlens .entry)) (now (wlists .entry)) (now (wranks .entry)))) (vec men) (length (now (set .entry))) (λ k. pastIn n (now (mranks .entry)) (now (list .entry)) (startIn (now (list .entry)) k) (vec men)) (member (now (set .entry))) r ⌝ }
 {
-    if !is_stable(instance, men) {
+    if !is_stable(n, mlens, mlists, wlens, wlists, wranks, men) {
         return false;
     }
-    let n = instance.n;
-    has_set(n, &instance.man_ranks, list, set, &men)
+    has_set(n, mranks, list, set, &men)
 }

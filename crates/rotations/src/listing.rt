@@ -1,21 +1,21 @@
 // The list of rotations: each by its number of pairs and then man and woman of each pair, from its lowest man, end to end in order of number.
-use crate::run::Numbering;
+use crate::run::ROOM;
 use crate::run::number_all;
 use instance::Checked;
 use instance::Instance;
+use instance::Loaded;
 use instance::Refusal;
 use instance::refuse;
 use matching::man_optimal_places;
 ghost use mathlib.Core.Path.{_≡_};
 ghost use mathlib.Core.List.{_++_};
 ghost use Prim.Native.Nat.{ℕ, _≤_, _<_};
-ghost use lib.ListN.{length, drop};
+ghost use lib.ListN.{length, take, drop};
 ghost use Rattle.laws.specs.Values.{vec};
 ghost use Rattle.stable_theory.specs.Rotations.Numbering.{total};
 ghost use Rattle.instance.specs.Verdict.{verdictOf};
 ghost use Rattle.matching.specs.Usable.{Usable, marketIn};
 ghost use Rattle.matching.specs.Extreme.{filled};
-ghost use Rattle.rotations.specs.Laws.Numbers.{NumberingOf};
 ghost use Rattle.rotations.specs.RotationList.{rotationCount, listBytes, checkList, replyOf, counting};
 
 // How many rotations there are, or the rule that is broken.
@@ -31,18 +31,29 @@ pub fn list(book: &[u8], out: &mut [u8]) -> Listed
 {
     let loaded = Instance::load(book);
     let answer = loaded.checked;
-    let instance = loaded.instance;
     let Checked::Fine = answer else {
         return reply(answer, 0);
     };
-    let rotations = all_of(instance);
-    let end = rotations.end;
+    let n = loaded.instance.n;
+    let places = man_optimal_places(loaded);
+    let mut numbers = [0u16; ROOM];
+    let extent = number_all(
+        n,
+        &loaded.instance.man_lengths,
+        &loaded.instance.man_lists,
+        &loaded.instance.man_ranks,
+        &loaded.instance.woman_lengths,
+        &loaded.instance.woman_lists,
+        &loaded.instance.woman_ranks,
+        places,
+        &mut numbers,
+    );
+    let end = extent.end;
     if out.len() < end {
         return reply(refuse(14, 0), 0);
     }
-    let numbers = rotations.list;
-    copy(&numbers[..end], out);
-    Listed::Count(rotations.count)
+    copy(&numbers, end, out);
+    Listed::Count(extent.count)
 }
 
 // The reply after a check: so many, where nothing is refused.
@@ -56,31 +67,35 @@ pub(crate) fn reply(checked: Checked, count: usize) -> Listed
 }
 
 // How many rotations the market of a record has.
-pub fn count(instance: Instance) -> usize
-    requires { ⌜ Usable instance ⌝ }
-    ensures { λ r. ⌜ r ≡ total (marketIn instance) ⌝ }
+pub fn count(loaded: Loaded) -> usize
+    requires { ⌜ Usable (loaded .instance) ⌝ }
+    ensures { λ r. ⌜ r ≡ total (marketIn (loaded .instance)) ⌝ }
 {
-    let rotations = all_of(instance);
-    rotations.count
+    let n = loaded.instance.n;
+    let places = man_optimal_places(loaded);
+    let mut numbers = [0u16; ROOM];
+    let extent = number_all(
+        n,
+        &loaded.instance.man_lengths,
+        &loaded.instance.man_lists,
+        &loaded.instance.man_ranks,
+        &loaded.instance.woman_lengths,
+        &loaded.instance.woman_lists,
+        &loaded.instance.woman_ranks,
+        places,
+        &mut numbers,
+    );
+    extent.count
 }
 
-// All rotations of a record.
-pub(crate) fn all_of(instance: Instance) -> Numbering
-    requires { ⌜ Usable instance ⌝ }
-    ensures { λ r. ⌜ NumberingOf instance r ⌝ }
-{
-    let places = man_optimal_places(instance);
-    number_all(instance, places)
-}
-
-// Writes numbers that fit a byte to the front of `out`.
-fn copy(numbers: &[u16], out: &mut [u8])
-    requires { ⌜ length (now numbers) ≤ length (now out) ⌝ }
-    requires { ⌜ ((v : ℕ) → v < length (now numbers) → vec (now numbers) v < 256) ⌝ }
-    ensures { λ _. ⌜ now (out .exit) ≡ now (numbers .entry) ++ drop (length (now (numbers .entry))) (now (out .entry)) ⌝ }
+// Writes the first `end` numbers, which fit a byte, to the front of `out`.
+fn copy(numbers: &[u16], end: usize, out: &mut [u8])
+    requires { ⌜ (end ≤ length (now numbers)) × (end ≤ length (now out)) ⌝ }
+    requires { ⌜ ((v : ℕ) → v < end → vec (now numbers) v < 256) ⌝ }
+    ensures { λ _. ⌜ now (out .exit) ≡ take end (now (numbers .entry)) ++ drop end (now (out .entry)) ⌝ }
 {
     let mut i = 0;
-    while i < numbers.len() {
+    while i < end {
         out[i] = numbers[i] as u8;
         i += 1;
     }

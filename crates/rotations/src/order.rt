@@ -1,5 +1,6 @@
 // The order of rotations: one precedes another if the least stable matching past the other is past it too, and it is another.
-use crate::listing::all_of;
+use crate::run::ROOM;
+use crate::run::number_all;
 use crate::turn::eliminate;
 use deferred::entry;
 use deferred::wide;
@@ -7,6 +8,7 @@ use instance::Checked;
 use instance::Instance;
 use instance::Refusal;
 use instance::refuse;
+use matching::man_optimal_places;
 ghost use mathlib.Core.Path.{_≡_};
 ghost use Prim.Native.Nat.{ℕ, _+_, _*_, _≤_, _<_};
 ghost use lib.ListN.{length};
@@ -15,6 +17,7 @@ ghost use Rattle.instance.specs.Verdict.{verdictOf};
 ghost use Rattle.stable_theory.specs.Stable.Holding.{Same};
 ghost use Rattle.deferred.specs.Lists.{Tables, marketOf};
 ghost use Rattle.matching.specs.Usable.{Usable, marketIn};
+ghost use Rattle.rotations.specs.Laws.RecordOf.{recordOf};
 ghost use Rattle.rotations.specs.Laws.Written.{Turnable, rotationIn};
 ghost use Rattle.rotations.specs.Laws.ListRead.{startIn, numberIn, pastIn, Readable};
 ghost use Rattle.rotations.specs.Laws.Required.{RequiredBy, FromZeros, requiredPlaces};
@@ -34,12 +37,24 @@ pub fn precedes(book: &[u8], first: usize, second: usize) -> Precedence
 {
     let loaded = Instance::load(book);
     let answer = loaded.checked;
-    let instance = loaded.instance;
     let Checked::Fine = answer else {
         return say(answer, false);
     };
-    let rotations = all_of(instance);
-    let count = rotations.count;
+    let n = loaded.instance.n;
+    let places = man_optimal_places(loaded);
+    let mut list = [0u16; ROOM];
+    let extent = number_all(
+        n,
+        &loaded.instance.man_lengths,
+        &loaded.instance.man_lists,
+        &loaded.instance.man_ranks,
+        &loaded.instance.woman_lengths,
+        &loaded.instance.woman_lists,
+        &loaded.instance.woman_ranks,
+        places,
+        &mut list,
+    );
+    let count = extent.count;
     if count <= first {
         return say(refuse(11, 0), false);
     }
@@ -49,8 +64,19 @@ pub fn precedes(book: &[u8], first: usize, second: usize) -> Precedence
     if first == second {
         return say(answer, false);
     }
-    let list = rotations.list;
-    let past = past_second(instance, &list, count, first, second);
+    let past = past_second(
+        n,
+        &loaded.instance.man_lengths,
+        &loaded.instance.man_lists,
+        &loaded.instance.man_ranks,
+        &loaded.instance.woman_lengths,
+        &loaded.instance.woman_lists,
+        &loaded.instance.woman_ranks,
+        &list,
+        count,
+        first,
+        second,
+    );
     say(answer, past)
 }
 
@@ -65,16 +91,27 @@ fn say(checked: Checked, yes: bool) -> Precedence
 }
 
 // Whether the least stable places past rotation `second` of the list are past rotation `first`.
-fn past_second(instance: Instance, list: &[u16], count: usize, first: usize, second: usize) -> bool
-    requires { ⌜ Usable instance ⌝ }
-    requires { ⌜ Readable (instance .n) count (now list) × (first < count) × (second < count) ⌝ }
-    ensures { λ r. ⌜ r ≡ pastIn (instance .n) (instance .«man_ranks») (now (list .entry)) (startIn (now (list .entry)) first) (requiredPlaces (marketIn instance) (numberIn (now (list .entry)) second)) ⌝ }
+fn past_second<'a>(
+    n: usize,
+    mlens: &'a [u16],
+    mlists: &'a [u16],
+    mranks: &'a [u16],
+    wlens: &'a [u16],
+    wlists: &'a [u16],
+    wranks: &'a [u16],
+    list: &[u16],
+    count: usize,
+    first: usize,
+    second: usize,
+) -> bool
+    requires { ⌜ Usable (recordOf n (now mlens) (now mlists) (now mranks) (now wlens) (now wlists) (now wranks)) ⌝ }
+    requires { ⌜ Readable n count (now list) × (first < count) × (second < count) ⌝ }
+    ensures { λ r. ⌜ r ≡ pastIn n (now (mranks .entry)) (now (list .entry)) (startIn (now (list .entry)) first) (requiredPlaces (marketIn (recordOf n (now (mlens .entry)) (now (mlists .entry)) (now (mranks .entry)) (now (wlens .entry)) (now (wlists .entry)) (now (wranks .entry)))) (numberIn (now (list .entry)) second)) ⌝ }
 {
-    let n = instance.n;
     let at = start_of(list, second);
-    let men = required(instance, list, at);
+    let men = required(n, mlens, mlists, mranks, wlens, wlists, wranks, list, at);
     let before = start_of(list, first);
-    past(n, &instance.man_ranks, list, before, &men)
+    past(n, mranks, list, before, &men)
 }
 
 // Where rotation number k of the list stands.
@@ -100,24 +137,33 @@ pub(crate) fn next_start(list: &[u16], at: usize) -> usize
 }
 
 // The least stable places past the rotation that stands at `at`.
-fn required(instance: Instance, list: &[u16], at: usize) -> [u16; Instance::LARGEST]
-    requires { ⌜ Usable instance ⌝ }
-    requires { ⌜ Turnable (instance .n) (instance .n) (rotationIn (now list) at) ⌝ }
+fn required<'a>(
+    n: usize,
+    mlens: &'a [u16],
+    mlists: &'a [u16],
+    mranks: &'a [u16],
+    wlens: &'a [u16],
+    wlists: &'a [u16],
+    wranks: &'a [u16],
+    list: &[u16],
+    at: usize,
+) -> [u16; Instance::LARGEST]
+    requires { ⌜ Usable (recordOf n (now mlens) (now mlists) (now mranks) (now wlens) (now wlists) (now wranks)) ⌝ }
+    requires { ⌜ Turnable n n (rotationIn (now list) at) ⌝ }
     requires { ⌜ at + 1 + 2 * vec (now list) at ≤ length (now list) ⌝ }
-    ensures { λ r. ⌜ RequiredBy instance (rotationIn (now (list .entry)) at) r ⌝ }
+    ensures { λ r. ⌜ RequiredBy (recordOf n (now (mlens .entry)) (now (mlists .entry)) (now (mranks .entry)) (now (wlens .entry)) (now (wlists .entry)) (now (wranks .entry))) (rotationIn (now (list .entry)) at) r ⌝ }
 {
-    let n = instance.n;
     let mut men = [0u16; Instance::LARGEST];
     let mut women = [0u16; Instance::LARGEST];
     settle_past(
         n,
         n,
-        &instance.man_lengths,
-        &instance.man_lists,
-        &instance.man_ranks,
-        &instance.woman_lengths,
-        &instance.woman_lists,
-        &instance.woman_ranks,
+        mlens,
+        mlists,
+        mranks,
+        wlens,
+        wlists,
+        wranks,
         list,
         at,
         &mut men[..n],

@@ -14,6 +14,8 @@ ghost use Rattle.deferred.specs.Lists.{Tables, Sized, marketOf};
 ghost use Rattle.matching.specs.Usable.{Usable, marketIn};
 ghost use Rattle.matching.specs.ExtremePlaces.{PlacesOf};
 ghost use Rattle.rotations.specs.Laws.Pointers.{State};
+ghost use Rattle.rotations.specs.Laws.RecordOf.{recordOf};
+ghost use Rattle.rotations.specs.Laws.WriteCode.{listRoom};
 ghost use Rattle.rotations.specs.Laws.RunCode.{Room, Turned, Numbered};
 ghost use Rattle.rotations.specs.Laws.Numbers.{NumberingOf};
 
@@ -37,13 +39,13 @@ fn next_rotation<'a>(
     t: &mut [u16],
     next: &mut [u16],
     marks: &mut [u16],
-    list: &mut [u16],
+    list: &mut [u16; ROOM],
     at: usize,
 ) -> usize
     requires { ⌜ Tables a b (now plens) (now plists) (now rlens) (now rlists) (now rranks) ⌝ }
     requires { ⌜ Tables b a (now rlens) (now rlists) (now plens) (now plists) (now pranks) ⌝ }
     requires { ⌜ Sized a b (now p) (now t) ⌝ }
-    requires { ⌜ (length (now next) ≡ a) × (length (now marks) ≡ a) × (a < 65536) ⌝ }
+    requires { ⌜ (length (now next) ≡ a) × (length (now marks) ≡ a) × (a < 65536) × (length (now list) ≡ listRoom) ⌝ }
     requires { ⌜ State (marketOf a b (now plens) (now plists) (now rlens) (now rlists)) (vec (now p)) (vec (now t)) (vec (now next)) ⌝ }
     requires { ⌜ Room a b (vec (now p)) at (now list) ⌝ }
     ensures { λ r. ⌜ Turned (marketOf a b (now (plens .entry)) (now (plists .entry)) (now (rlens .entry)) (now (rlists .entry))) (vec (now (p .entry))) (now (list .entry)) at (vec (now (p .exit))) (vec (now (t .exit))) (vec (now (next .exit))) (now (list .exit)) r ⌝ }
@@ -97,16 +99,16 @@ pub(crate) fn fill<'a>(
     t: &mut [u16],
     next: &mut [u16],
     marks: &mut [u16],
-    list: &mut [u16],
+    list: &mut [u16; ROOM],
 ) -> Extent
     requires { ⌜ Tables a b (now plens) (now plists) (now rlens) (now rlists) (now rranks) ⌝ }
     requires { ⌜ Tables b a (now rlens) (now rlists) (now plens) (now plists) (now pranks) ⌝ }
     requires { ⌜ Sized a b (now p) (now t) ⌝ }
-    requires { ⌜ (length (now next) ≡ a) × (length (now marks) ≡ a) × (a < 65536) ⌝ }
+    requires { ⌜ (length (now next) ≡ a) × (length (now marks) ≡ a) × (a < 65536) × (length (now list) ≡ listRoom) ⌝ }
     requires { ⌜ State (marketOf a b (now plens) (now plists) (now rlens) (now rlists)) (vec (now p)) (vec (now t)) (vec (now next)) ⌝ }
     requires { ⌜ Same (marketOf a b (now plens) (now plists) (now rlens) (now rlists)) (vec (now p)) (proposer-optimal (marketOf a b (now plens) (now plists) (now rlens) (now rlists))) ⌝ }
     requires { ⌜ 5 * (a * b) ≤ 2 * length (now list) ⌝ }
-    ensures { λ r. ⌜ Numbered (marketOf a b (now (plens .entry)) (now (plists .entry)) (now (rlens .entry)) (now (rlists .entry))) (now (list .exit)) (r .count) (r .end) ⌝ }
+    ensures { λ r. ⌜ Numbered (marketOf a b (now (plens .entry)) (now (plists .entry)) (now (rlens .entry)) (now (rlists .entry))) (now (list .exit)) (r .count) (r .end) × (length (now (list .exit)) ≡ listRoom) ⌝ }
 {
     let mut count: usize = 0;
     let mut at: usize = 0;
@@ -135,44 +137,43 @@ pub(crate) fn fill<'a>(
     }
 }
 
-// All rotations of a record, end to end in order of number, with how many they are and where their list ends.
-pub(crate) struct Numbering {
-    pub list: [u16; ROOM],
-    pub count: usize,
-    pub end: usize,
-}
-
 // Two and a half numbers for each place: a pair takes two, a rotation one more, each moves at least two men, and no man goes back.
 pub(crate) const ROOM: usize = 10240;
 
-// All rotations of a record, from the student-best places.
-pub(crate) fn number_all(instance: Instance, places: Places) -> Numbering
-    requires { ⌜ Usable instance ⌝ }
-    requires { ⌜ PlacesOf instance (proposer-optimal (marketIn instance)) places ⌝ }
-    ensures { λ r. ⌜ NumberingOf instance r ⌝ }
+// Writes all rotations of a record into the list, from the student-best places, with its tables lent.
+pub(crate) fn number_all<'a>(
+    n: usize,
+    mlens: &'a [u16],
+    mlists: &'a [u16],
+    mranks: &'a [u16],
+    wlens: &'a [u16],
+    wlists: &'a [u16],
+    wranks: &'a [u16],
+    places: Places,
+    list: &mut [u16; ROOM],
+) -> Extent
+    requires { ⌜ Usable (recordOf n (now mlens) (now mlists) (now mranks) (now wlens) (now wlists) (now wranks)) ⌝ }
+    requires { ⌜ PlacesOf (recordOf n (now mlens) (now mlists) (now mranks) (now wlens) (now wlists) (now wranks)) (proposer-optimal (marketIn (recordOf n (now mlens) (now mlists) (now mranks) (now wlens) (now wlists) (now wranks)))) places ⌝ }
+    requires { ⌜ length (now list) ≡ listRoom ⌝ }
+    ensures { λ r. ⌜ NumberingOf (recordOf n (now (mlens .entry)) (now (mlists .entry)) (now (mranks .entry)) (now (wlens .entry)) (now (wlists .entry)) (now (wranks .entry))) (now (list .exit)) r ⌝ }
 {
-    let n = instance.n;
     let mut p = places.men;
     let mut t = places.women;
     let mut next = [0u16; Instance::LARGEST];
     let mut marks = [0u16; Instance::LARGEST];
-    let mut list = [0u16; ROOM];
-    let extent = fill(
+    fill(
         n,
         n,
-        &instance.man_lengths,
-        &instance.man_lists,
-        &instance.man_ranks,
-        &instance.woman_lengths,
-        &instance.woman_lists,
-        &instance.woman_ranks,
+        mlens,
+        mlists,
+        mranks,
+        wlens,
+        wlists,
+        wranks,
         &mut p[..n],
         &mut t[..n],
         &mut next[..n],
         &mut marks[..n],
-        &mut list[..],
-    );
-    let count = extent.count;
-    let end = extent.end;
-    Numbering { list, count, end }
+        list,
+    )
 }

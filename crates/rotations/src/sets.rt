@@ -3,10 +3,10 @@ use crate::closed::bad_marks;
 use crate::closed::closes;
 use crate::closed::set_places;
 use crate::listing::Listed;
-use crate::listing::all_of;
 use crate::listing::reply;
 use crate::order::next_start;
 use crate::order::past;
+use crate::run::ROOM;
 use crate::run::number_all;
 use instance::Checked;
 use instance::Instance;
@@ -35,26 +35,54 @@ pub fn set_to_matching(book: &[u8], set: &[u8], out: &mut [u8]) -> Checked
 {
     let loaded = Instance::load(book);
     let answer = loaded.checked;
-    let instance = loaded.instance;
     let Checked::Fine = answer else {
         return answer;
     };
-    let places = man_optimal_places(instance);
-    let rotations = number_all(instance, places);
-    let count = rotations.count;
+    let n = loaded.instance.n;
+    let places = man_optimal_places(loaded);
+    let mut list = [0u16; ROOM];
+    let extent = number_all(
+        n,
+        &loaded.instance.man_lengths,
+        &loaded.instance.man_lists,
+        &loaded.instance.man_ranks,
+        &loaded.instance.woman_lengths,
+        &loaded.instance.woman_lists,
+        &loaded.instance.woman_ranks,
+        places,
+        &mut list,
+    );
+    let count = extent.count;
     if bad_marks(set, count) {
         return refuse(15, 0);
     }
-    let list = rotations.list;
-    let men = set_places(instance, places, &list, set);
-    if !closes(instance, &list, set, men) {
+    let men = set_places(
+        n,
+        &loaded.instance.man_ranks,
+        &loaded.instance.woman_ranks,
+        places,
+        &list,
+        set,
+    );
+    let closed = closes(
+        n,
+        &loaded.instance.man_lengths,
+        &loaded.instance.man_lists,
+        &loaded.instance.man_ranks,
+        &loaded.instance.woman_lengths,
+        &loaded.instance.woman_lists,
+        &loaded.instance.woman_ranks,
+        &list,
+        set,
+        men,
+    );
+    if !closed {
         return refuse(16, 0);
     }
-    let n = instance.n;
     if out.len() < n {
         return refuse(14, 0);
     }
-    write_matching(n, &instance.man_lists, &men, out);
+    write_matching(n, &loaded.instance.man_lists, &men, out);
     answer
 }
 
@@ -86,20 +114,37 @@ pub fn matching_to_set(book: &[u8], matching: &[u8], out: &mut [u8]) -> Listed
     ensures reply { λ r. ⌜ replyOf r ≡ counting (checkMatchingSet (now (book .entry)) (now (matching .entry)) (length (now (out .entry)))) (rotationCount (now (book .entry))) ⌝ }
     ensures bytes { λ _. ⌜ now (out .exit) ≡ filled (checkMatchingSet (now (book .entry)) (now (matching .entry)) (length (now (out .entry)))) (rotationCount (now (book .entry))) (matchingSet (now (book .entry)) (now (matching .entry))) (now (out .entry)) ⌝ }
 {
-    let judged = judge(book, matching);
+    let loaded = Instance::load(book);
+    let judged = judge(loaded, matching);
     let answer = judged.checked;
-    let instance = judged.instance;
-    let places = judged.places;
     let Checked::Fine = answer else {
         return reply(answer, 0);
     };
-    let rotations = all_of(instance);
-    let count = rotations.count;
+    let n = loaded.instance.n;
+    let places = man_optimal_places(loaded);
+    let mut list = [0u16; ROOM];
+    let extent = number_all(
+        n,
+        &loaded.instance.man_lengths,
+        &loaded.instance.man_lists,
+        &loaded.instance.man_ranks,
+        &loaded.instance.woman_lengths,
+        &loaded.instance.woman_lists,
+        &loaded.instance.woman_ranks,
+        places,
+        &mut list,
+    );
+    let count = extent.count;
     if out.len() < count {
         return reply(refuse(14, 0), 0);
     }
-    let n = instance.n;
-    let list = rotations.list;
-    write_set(n, &instance.man_ranks, &list, &places.men, count, out);
+    write_set(
+        n,
+        &loaded.instance.man_ranks,
+        &list,
+        &judged.places.men,
+        count,
+        out,
+    );
     Listed::Count(count)
 }

@@ -16,7 +16,7 @@ ghost use lib.ListN.{length};
 ghost use Rattle.laws.specs.Values.{vec};
 ghost use Rattle.deferred.specs.Lists.{marketOf};
 ghost use Rattle.matching.specs.Usable.{Usable};
-ghost use Rattle.repair.specs.Nearest.{GivenEnds};
+ghost use Rattle.repair.specs.Nearest.{GivenEnds, GivenIn};
 ghost use Rattle.sheet_lines.specs.Put.{Put};
 ghost use Rattle.sheet_lines.specs.Answered.{letterByte, Answered};
 ghost use Rattle.sheet_lines.specs.Over.{sheetOver};

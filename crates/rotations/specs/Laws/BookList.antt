@@ -15,7 +15,7 @@ use Rattle.stable_theory.specs.Rotations.Subset.{prefix}
 use Rattle.stable_theory.specs.Rotations.Canonical.{rotations-complete}
 use Rattle.stable_theory.specs.Rotations.Rebuild.{run-vector}
 use Rattle.matching.specs.BookMarket.{market, market-proper, market-complete}
-use Rattle.rotations.specs.declared.run.Numbering.{Numbering}
+use Rattle.rotations.specs.declared.run.Extent.{Extent}
 use Rattle.rotations.specs.Laws.RunCode.{Numbered}
 use Rattle.rotations.specs.Laws.Numbers.{NumberingOf, numbering-book}
 use Rattle.rotations.specs.RotationList.{listBytes}
@@ -37,13 +37,13 @@ module _ {b : List ℕ} {r : Instance} (R : Read b r) where
   numbered-small j h =
       exposed-small (market-proper (R .formed)) (market-complete (R .formed) .even) (before-stable j (omega arith)) (numbered-exposed h)
 
-  module _ {s : Numbering} (N : NumberingOf r s) where
+  module _ {numbers : List ℕ} {s : Extent} (N : NumberingOf r numbers s) where
     -- the list is of the book's rotations
-    pub book-numbered : Numbered (market b) (s .list) (s .count) (s .end)
+    pub book-numbered : Numbered (market b) numbers (s .count) (s .end)
     book-numbered = numbering-book (R .formed) (R .tables) N
 
     -- its numbers are the bytes of the list
-    pub list-bytes : take (s .end) (s .list) ≡ listBytes b
+    pub list-bytes : take (s .end) numbers ≡ listBytes b
     unfolding listBytes
     list-bytes = lists-bytes (book-numbered .lists)
 
@@ -52,9 +52,9 @@ module _ {b : List ℕ} {r : Instance} (R : Read b r) where
     unfolding listBytes
     list-long = lists-long (book-numbered .lists)
 
-    pub list-within : s .end ≤ length (s .list)
+    pub list-within : s .end ≤ length numbers
     list-within = lists-within (book-numbered .lists)
 
     -- and each fits a byte
-    pub list-small : (v : ℕ) → v < s .end → vec (s .list) v < 256
+    pub list-small : (v : ℕ) → v < s .end → vec numbers v < 256
     list-small v u = omega (arith, lists-small (book-numbered .lists) numbered-small v u, R .formed .few)

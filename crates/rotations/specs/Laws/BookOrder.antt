@@ -22,7 +22,7 @@ use Rattle.stable_theory.specs.Rotations.Subset.{prefix, required, precedes}
 use Rattle.stable_theory.specs.Rotations.RotationAlike.{exposed-alike, eliminate-alike, eliminate-same}
 use Rattle.matching.specs.BookMarket.{market, market-proper}
 use Rattle.matching.specs.Usable.{marketIn, usable-alike}
-use Rattle.rotations.specs.declared.run.Numbering.{Numbering}
+use Rattle.rotations.specs.declared.run.Extent.{Extent}
 use Rattle.rotations.specs.Laws.Numbers.{NumberingOf}
 use Rattle.rotations.specs.RotationList.{rotationCount}
 use Rattle.rotations.specs.Laws.Replies.{Read, read-usable}
@@ -44,33 +44,33 @@ module _ {b : List ℕ} {r : Instance} (R : Read b r) where
       let c : w < r .n = omega (arith, R .tables .number) in
       read-usable R .women .agrees .rank a c ∙ book-alike .proposing .place a c
 
-  module _ {s : Numbering} (N : NumberingOf r s) where
+  module _ {numbers : List ℕ} {s : Extent} (N : NumberingOf r numbers s) where
     -- the vectors in which the rotations are exposed
     exposing : ℕ → ℕ → ℕ
     exposing j = prefix (market b) (rotation (market b)) (proposer-optimal (market b)) j
 
     -- the list can be read
-    pub book-readable : Readable (r .n) (rotationCount b) (s .list)
+    pub book-readable : Readable (r .n) (rotationCount b) numbers
     unfolding market exposing
     book-readable =
         lists-readable (book-numbered R N .lists) (market-proper (R .formed)) exposing (λ k h. before-stable R k (omega arith)) (λ k h. numbered-exposed R h)
         (R .tables .number) (R .tables .number)
 
     -- rotation number k of the list is the book's
-    pub book-number : {k : ℕ} → k < rotationCount b → SamePairs (numberIn (s .list) k) (rotation (market b) k)
+    pub book-number : {k : ℕ} → k < rotationCount b → SamePairs (numberIn numbers k) (rotation (market b) k)
     unfolding exposing
     book-number h =
         number-same (book-numbered R N .lists) (market-proper (R .formed)) exposing (λ k h. before-stable R k (omega arith)) (λ k h. numbered-exposed R h) h
 
     -- the test on places is the theory's
-    pub book-past : (q : ℕ → ℕ) {k : ℕ} → k < rotationCount b → pastIn (r .n) (r .«man_ranks») (s .list) (startIn (s .list) k) q ≡ passed (market b) (rotation (market b) k) q
+    pub book-past : (q : ℕ → ℕ) {k : ℕ} → k < rotationCount b → pastIn (r .n) (r .«man_ranks») numbers (startIn numbers k) q ≡ passed (market b) (rotation (market b) k) q
     unfolding exposing
     book-past q h =
         past-passed (book-numbered R N .lists) (market-proper (R .formed)) exposing (λ k h. before-stable R k (omega arith)) (λ k h. numbered-exposed R h)
         (r .n) (r .«man_ranks») q h book-ranks
 
     -- the least places past a rotation are the theory's
-    book-required : {k : ℕ} → k < rotationCount b → Same (market b) (requiredPlaces (marketIn r) (numberIn (s .list) k)) (required (market b) (rotation (market b) k))
+    book-required : {k : ℕ} → k < rotationCount b → Same (market b) (requiredPlaces (marketIn r) (numberIn numbers k)) (required (market b) (rotation (market b) k))
     unfolding required
     book-required {k} h i u =
         let U = read-usable R in
@@ -83,10 +83,10 @@ module _ {b : List ℕ} {r : Instance} (R : Read b r) where
 
     -- so the answer is document 01's
     pub book-precedes : {j k : ℕ} → j < rotationCount b → k < rotationCount b → (j ≡ k → ⊥) →
-        pastIn (r .n) (r .«man_ranks») (s .list) (startIn (s .list) j) (requiredPlaces (marketIn r) (numberIn (s .list) k)) ≡ bookPrecedes b j k
+        pastIn (r .n) (r .«man_ranks») numbers (startIn numbers j) (requiredPlaces (marketIn r) (numberIn numbers k)) ≡ bookPrecedes b j k
     unfolding precedes
     book-precedes {j} {k} g h ne =
-        book-past (requiredPlaces (marketIn r) (numberIn (s .list) k)) g
+        book-past (requiredPlaces (marketIn r) (numberIn numbers k)) g
         ∙ (passed-agree (numbered-exposed R g) (book-required h)
         ∙ ap (λ (t : Bool). both (not t) (passed (market b) (rotation (market b) j) (required (market b) (rotation (market b) k)))) (sym (ne-eqb j k ne)))
 

@@ -30,7 +30,7 @@ use Rattle.matching.specs.Usable.{marketIn}
 use Rattle.matching.specs.Extreme.{filled}
 use Rattle.matching.specs.ExtremePlaces.{PlacesOf}
 use Rattle.matching.specs.ExtremeBytes.{Writable, places-writable, places-filled}
-use Rattle.rotations.specs.declared.run.Numbering.{Numbering}
+use Rattle.rotations.specs.declared.run.Extent.{Extent}
 use Rattle.rotations.specs.Laws.Numbers.{NumberingOf}
 use Rattle.rotations.specs.RotationList.{rotationCount}
 use Rattle.rotations.specs.Laws.Replies.{Read, read-usable}
@@ -42,7 +42,7 @@ use Rattle.rotations.specs.Laws.PlaceTests.{ClosesIs}
 use Rattle.rotations.specs.Laws.SetPlaces.{SetPlaces, after-same, after-within}
 use Rattle.rotations.specs.Sets.{member, closedSet, setVector, setMatching}
 
-module _ {b : List ℕ} {r : Instance} (R : Read b r) {s : Numbering} (N : NumberingOf r s) where
+module _ {b : List ℕ} {r : Instance} (R : Read b r) {numbers : List ℕ} {s : Extent} (N : NumberingOf r numbers s) where
   -- a person of the book is one of the record
   on-record : {i : ℕ} → i < market b .proposers .size → i < r .n
   unfolding market
@@ -53,7 +53,7 @@ module _ {b : List ℕ} {r : Instance} (R : Read b r) {s : Numbering} (N : Numbe
   unfolding market
   ranks-of = record { rank = λ i w a c. book-ranks R i w (omega (arith, R .tables .number)) (omega (arith, R .tables .number)) }
 
-  module _ {places : Places} (P : PlacesOf r (proposer-optimal (marketIn r)) places) {set men : List ℕ} (S : SetPlaces r (s .list) set (places .men) men) (marks : length set ≡ rotationCount b) where
+  module _ {places : Places} (P : PlacesOf r (proposer-optimal (marketIn r)) places) {set men : List ℕ} (S : SetPlaces (r .n) (r .«man_ranks») numbers set (places .men) men) (marks : length set ≡ rotationCount b) where
     -- the places are those of the set
     pub set-vector : Same (market b) (vec men) (setVector b set)
     unfolding vectorOf
@@ -81,12 +81,12 @@ module _ {b : List ℕ} {r : Instance} (R : Read b r) {s : Numbering} (N : Numbe
     there-here Q = stable-alike (alike-sym (book-alike R)) (λ i u. sym (set-vector i u)) Q
 
     -- past a rotation in the code's test and in the theory's
-    pub set-past : {k : ℕ} → k < rotationCount b → pastIn (r .n) (r .«man_ranks») (s .list) (startIn (s .list) k) (vec men) ≡ setOf (market b) (rotation (market b)) (setVector b set) k
+    pub set-past : {k : ℕ} → k < rotationCount b → pastIn (r .n) (r .«man_ranks») numbers (startIn numbers k) (vec men) ≡ setOf (market b) (rotation (market b)) (setVector b set) k
     unfolding setOf
     set-past h = book-past R N (vec men) h ∙ passed-agree (numbered-exposed R h) set-vector
 
     -- so the code's test is whether the set is closed
-    pub set-closed : {answer : Bool} → ClosesIs (marketIn r) (vec men) (length set) (λ k. pastIn (r .n) (r .«man_ranks») (s .list) (startIn (s .list) k) (vec men)) (member set) answer →
+    pub set-closed : {answer : Bool} → ClosesIs (marketIn r) (vec men) (length set) (λ k. pastIn (r .n) (r .«man_ranks») numbers (startIn numbers k) (vec men)) (member set) answer →
         closedSet b set ≡ answer
     set-closed {answer} C =
         let M = market-proper (R .formed) in

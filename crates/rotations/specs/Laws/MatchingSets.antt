@@ -1,16 +1,16 @@
 -- The set of a matching that the check passed, read from the list of a record: what the code writes is what document 01 says. Assumes nothing.
 use Prim.Native.Nat.{ℕ, _*_, _≤_}
-use mathlib.Core.Path.{_≡_, _∙_, ap, subst}
+use mathlib.Core.Path.{_≡_, _∙_, ap}
 use mathlib.Core.Bool.{Bool}
 use mathlib.Core.List.{List, _++_}
 use native.Mathlib.Omega.{arith}
 use lib.ListN.{length, drop}
 use Rattle.laws.specs.Choice.{pick}
 use Rattle.laws.specs.Values.{vec, values, values-same}
-use Rattle.instance.specs.Format.{people}
-use Rattle.instance.specs.Verdict.{Verdict, fine}
+use Rattle.instance.specs.Verdict.{fine}
+use Rattle.instance.specs.declared.record.Loaded.{Loaded}
 use Rattle.instance.specs.WellFormed.{fine-well-formed}
-use Rattle.instance.specs.Record.{Tables, numberIf}
+use Rattle.instance.specs.Record.{Recorded}
 use Rattle.stable_theory.specs.Stable.Holding.{Same}
 use Rattle.stable_theory.specs.Rotations.Subset.{setOf}
 use Rattle.stable_theory.specs.Rotations.SameRotation.{passed-agree}
@@ -18,23 +18,20 @@ use Rattle.matching.specs.declared.Judged.{Judged}
 use Rattle.matching.specs.BookMarket.{market}
 use Rattle.matching.specs.Matching.{vectorOf, checkMatching}
 use Rattle.matching.specs.Judge.{JudgedIs}
-use Rattle.rotations.specs.declared.run.Numbering.{Numbering}
+use Rattle.rotations.specs.declared.run.Extent.{Extent}
 use Rattle.rotations.specs.Laws.Numbers.{NumberingOf}
 use Rattle.rotations.specs.RotationList.{rotationCount}
-use Rattle.rotations.specs.Laws.Replies.{Read, read-usable}
+use Rattle.rotations.specs.Laws.Replies.{Read, record-read, read-usable}
 use Rattle.rotations.specs.Laws.BookList.{numbered-exposed, book-numbered}
 use Rattle.rotations.specs.Laws.BookOrder.{book-past}
 use Rattle.rotations.specs.Laws.ListRead.{startIn, pastIn}
 use Rattle.rotations.specs.Sets.{matchingSet}
 use Rattle.rotations.specs.Laws.ThereAndBack.{matching-formed}
 
-module _ {b m : List ℕ} {j : Judged} (J : JudgedIs b m j) (f : checkMatching b m ≡ fine) where
+module _ {b m : List ℕ} {L : Loaded} {j : Judged} (R : Recorded b L) (J : JudgedIs b m j) (f : checkMatching b m ≡ fine) where
   -- the record is that of the book, which is well formed
-  pub judged-read : Read b (j .instance)
-  judged-read =
-      let W = matching-formed b m f in
-      let e = fine-well-formed b .1 W in
-      record { fine = e; formed = W; tables = subst (λ (v : Verdict). Tables b (numberIf v (people b)) (j .instance)) e (J .tables) }
+  pub judged-read : Read b (L .instance)
+  judged-read = record-read R (R .checked ∙ fine-well-formed b .1 (matching-formed b m f))
 
   -- the places are those of the matching
   judged-men : Same (market b) (vec (j .places .men)) (vectorOf b m)
@@ -42,22 +39,22 @@ module _ {b m : List ℕ} {j : Judged} (J : JudgedIs b m j) (f : checkMatching b
   judged-men i u = J .men .here (rw f u)
 
   -- as many as the function that tests them reads
-  pub judged-room : (j .instance .n ≤ length (j .places .men)) × (j .instance .n * j .instance .n ≤ length (j .instance .«man_ranks»))
+  pub judged-room : (L .instance .n ≤ length (j .places .men)) × (L .instance .n * L .instance .n ≤ length (L .instance .«man_ranks»))
   judged-room = (omega (arith, J .men .long, read-usable judged-read .few), read-usable judged-read .women .ranked)
 
-  module _ {s : Numbering} (N : NumberingOf (j .instance) s) where
+  module _ {numbers : List ℕ} {s : Extent} (N : NumberingOf (L .instance) numbers s) where
     -- the number of rotations is the book's
     pub judged-count : s .count ≡ rotationCount b
     judged-count = book-numbered judged-read N .count
 
     -- and the tests, written one after the other, are the set
     pub judged-set : (out after : List ℕ) →
-        after ≡ values (λ k. pick (pastIn (j .instance .n) (j .instance .«man_ranks») (s .list) (startIn (s .list) k) (vec (j .places .men))) 1 0) 0 (s .count) ++ drop (s .count) out →
+        after ≡ values (λ k. pick (pastIn (L .instance .n) (L .instance .«man_ranks») numbers (startIn numbers k) (vec (j .places .men))) 1 0) 0 (s .count) ++ drop (s .count) out →
         after ≡ matchingSet b m ++ drop (rotationCount b) out
     unfolding matchingSet setOf
     judged-set out after h =
         h
-        ∙ (ap (λ (z : ℕ). values (λ k. pick (pastIn (j .instance .n) (j .instance .«man_ranks») (s .list) (startIn (s .list) k) (vec (j .places .men))) 1 0) 0 z ++ drop z out) judged-count
+        ∙ (ap (λ (z : ℕ). values (λ k. pick (pastIn (L .instance .n) (L .instance .«man_ranks») numbers (startIn numbers k) (vec (j .places .men))) 1 0) 0 z ++ drop z out) judged-count
         ∙ ap (λ (l : List ℕ). l ++ drop (rotationCount b) out)
         (values-same (rotationCount b) _ _
         (λ k u. ap (λ (t : Bool). pick t 1 0) (book-past judged-read N (vec (j .places .men)) u ∙ passed-agree (numbered-exposed judged-read u) judged-men))))

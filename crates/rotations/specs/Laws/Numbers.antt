@@ -22,19 +22,16 @@ use Rattle.matching.specs.declared.Places.{Places}
 use Rattle.matching.specs.BookMarket.{market, market-proper}
 use Rattle.matching.specs.Usable.{Usable, marketIn, usable, usable-alike}
 use Rattle.matching.specs.ExtremePlaces.{PlacesOf}
-use Rattle.rotations.specs.declared.run.Numbering.{Numbering}
+use Rattle.rotations.specs.declared.run.Extent.{Extent}
 use Rattle.rotations.specs.Laws.Pointers.{State, advanced-start}
 use Rattle.rotations.specs.Laws.Written.{lists-same}
+use Rattle.rotations.specs.Laws.WriteCode.{listRoom}
 use Rattle.rotations.specs.Laws.RunCode.{Numbered}
 
--- how many numbers the list has room for: two and a half for each place of the largest book
-abbrev pub listRoom : ℕ
-listRoom = 10240
-
 -- The list holds all rotations of a record's market
-pub record NumberingOf (r : Instance) (s : Numbering) : Type 0 where
-  pub numbered : Numbered (marketIn r) (s .list) (s .count) (s .end)
-  pub long : length (s .list) ≡ listRoom
+pub record NumberingOf (r : Instance) (numbers : List ℕ) (s : Extent) : Type 0 where
+  pub numbered : Numbered (marketIn r) numbers (s .count) (s .end)
+  pub long : length numbers ≡ listRoom
 
 module _ {r : Instance} (U : Usable r) {s : Places} (P : PlacesOf r (proposer-optimal (marketIn r)) s) where
   -- the first n places are those of the record's persons
@@ -71,8 +68,8 @@ module _ {b : List ℕ} {r : Instance} (W : WellFormed b) (T : Tables b (people 
   total-book = rotations-alike (usable W T .men .proper) (market-proper W) (usable-alike W T) .0
 
   -- so the list is of the book's rotations
-  pub numbering-book : {s : Numbering} → NumberingOf r s → Numbered (market b) (s .list) (s .count) (s .end)
-  numbering-book {s} N =
+  pub numbering-book : {numbers : List ℕ} {s : Extent} → NumberingOf r numbers s → Numbered (market b) numbers (s .count) (s .end)
+  numbering-book {numbers} {s} N =
       let a = rotations-alike (usable W T .men .proper) (market-proper W) (usable-alike W T) in
       let k = total-book in
       record { count = N .numbered .count ∙ k; lists = rw (← k) (lists-same (a .1) (N .numbered .lists)) }

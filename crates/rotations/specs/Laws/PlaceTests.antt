@@ -11,7 +11,6 @@ use Rattle.laws.specs.Choice.{pick, same}
 use Rattle.laws.specs.First.{clash}
 use Rattle.laws.specs.Values.{vec}
 use Rattle.laws.specs.Padded.{zeros, zeros-front}
-use Rattle.instance.specs.declared.record.Instance.{Instance}
 use Rattle.instance.specs.Format.{largest}
 use Rattle.stable_theory.specs.Stable.Market.{Market, Proper}
 use Rattle.stable_theory.specs.Stable.Vector.{Within, Stable}
@@ -19,7 +18,6 @@ use Rattle.stable_theory.specs.Stable.Holding.{Same, stable-same}
 use Rattle.stable_theory.specs.Least.LeastLaws.{least-after, least-least}
 use Rattle.deferred.specs.Lists.{Sized}
 use Rattle.deferred.specs.AnyStart.{Settles}
-use Rattle.matching.specs.Usable.{Usable, marketIn}
 use Rattle.rotations.specs.Laws.Over.{over-at}
 
 -- whether two tests agree at every number below n
@@ -101,17 +99,17 @@ module _ {I : Market} (M : Proper I) {q p t : ℕ → ℕ} {answer : Bool} (S : 
       }
 
 -- a vector in an array, the first n of it lent
-module _ {r : Instance} (U : Usable r) (men : List ℕ) (long : length men ≡ largest) where
-  pub lent-sized : Sized (r .n) (r .n) (take (r .n) men) (take (r .n) (zeros largest))
-  lent-sized = record { places = length-take-le (r .n) men (omega (arith, U .few)); bests = zeros-front (U .few) }
+module _ {I : Market} (M : Proper I) (few : I .proposers .size ≤ largest) (men : List ℕ) (long : length men ≡ largest) where
+  pub lent-sized : Sized (I .proposers .size) (I .proposers .size) (take (I .proposers .size) men) (take (I .proposers .size) (zeros largest))
+  lent-sized = record { places = length-take-le (I .proposers .size) men (omega (arith, few)); bests = zeros-front few }
 
-  pub lent-at : Same (marketIn r) (vec (take (r .n) men)) (vec men)
-  lent-at i u = getD-take (r .n) men i 0 u
+  pub lent-at : Same I (vec (take (I .proposers .size) men)) (vec men)
+  lent-at i u = getD-take (I .proposers .size) men i 0 u
 
-  pub lent-within : Within (marketIn r) (vec men) → Within (marketIn r) (vec (take (r .n) men))
+  pub lent-within : Within I (vec men) → Within I (vec (take (I .proposers .size) men))
   lent-within W = record { bound = λ {i} u. omega (arith, lent-at i u, W .bound u) }
 
-  pub lent-stable : {answer : Bool} → StableIs (marketIn r) (vec (take (r .n) men)) answer → StableIs (marketIn r) (vec men) answer
+  pub lent-stable : {answer : Bool} → StableIs I (vec (take (I .proposers .size) men)) answer → StableIs I (vec men) answer
   lent-stable K =
       record {
         yes = λ e. stable-same _ _ lent-at (K .yes e);
@@ -119,20 +117,20 @@ module _ {r : Instance} (U : Usable r) (men : List ℕ) (long : length men ≡ l
       }
 
   -- what was made of the front, put back, is compared with the whole
-  module _ (p : List ℕ) (e : length p ≡ length (take (r .n) men)) where
-    back-long : length (p ++ drop (r .n) men) ≡ largest
-    back-long = length-front men p (r .n) e ∙ long
+  module _ (p : List ℕ) (e : length p ≡ length (take (I .proposers .size) men)) where
+    back-long : length (p ++ drop (I .proposers .size) men) ≡ largest
+    back-long = length-front men p (I .proposers .size) e ∙ long
 
-    pub lent-room : r .n ≤ length (p ++ drop (r .n) men)
-    lent-room = omega (arith, back-long, U .few)
+    pub lent-room : I .proposers .size ≤ length (p ++ drop (I .proposers .size) men)
+    lent-room = omega (arith, back-long, few)
 
-    pub lent-count : largest ≡ length (p ++ drop (r .n) men)
+    pub lent-count : largest ≡ length (p ++ drop (I .proposers .size) men)
     lent-count = sym back-long
 
-    pub lent-same : {answer : Bool} → SameIs (r .n) (vec (p ++ drop (r .n) men)) (vec men) answer → SameIs (r .n) (vec p) (vec (take (r .n) men)) answer
+    pub lent-same : {answer : Bool} → SameIs (I .proposers .size) (vec (p ++ drop (I .proposers .size) men)) (vec men) answer → SameIs (I .proposers .size) (vec p) (vec (take (I .proposers .size) men)) answer
     lent-same K =
         let f = e ∙ lent-sized .places in
         record {
-          yes = λ z i u. omega (arith, over-at (r .n) p men f i u, lent-at i u, K .yes z i u);
-          no = λ z g. K .no z (λ i u. omega (arith, over-at (r .n) p men f i u, lent-at i u, g i u));
+          yes = λ z i u. omega (arith, over-at (I .proposers .size) p men f i u, lent-at i u, K .yes z i u);
+          no = λ z g. K .no z (λ i u. omega (arith, over-at (I .proposers .size) p men f i u, lent-at i u, g i u));
         }

@@ -27,11 +27,11 @@ use Rattle.rotations.specs.Laws.ListRead.{numberIn, Readable}
 use Rattle.rotations.specs.Laws.SetCode.{RanksOf, SetReady, SetEliminated}
 use Rattle.rotations.specs.Sets.{member}
 
--- The answer: the places of the set for the persons of a record, and zeros past them
-pub record SetPlaces (r : Instance) (l set places men : List ℕ) : Type 0 where
-  pub is : {I : Market} → RanksOf (r .n) (r .«man_ranks») I → (i : ℕ) → i < I .proposers .size → i < r .n →
-      vec men i ≡ after I (numberIn l) (vec (take (r .n) places)) (member set) (length set) i
-  pub past : (i : ℕ) → r .n ≤ i → vec men i ≡ 0
+-- The answer: the places of the set for n persons, and zeros past them
+pub record SetPlaces (n : ℕ) (ranks l set places men : List ℕ) : Type 0 where
+  pub is : {I : Market} → RanksOf n ranks I → (i : ℕ) → i < I .proposers .size → i < n →
+      vec men i ≡ after I (numberIn l) (vec (take n places)) (member set) (length set) i
+  pub past : (i : ℕ) → n ≤ i → vec men i ≡ 0
   pub long : length men ≡ largest
 
 module _ {r : Instance} (U : Usable r) {p : ℕ → ℕ} {s : Places} (P : PlacesOf r p s) {l : List ℕ} where
@@ -46,15 +46,16 @@ module _ {r : Instance} (U : Usable r) {p : ℕ → ℕ} {s : Places} (P : Place
         woman-ranks = U .men .ranked;
       }
 
-  -- and what it gives, put back into the array
-  pub places-set : (set : List ℕ) {q : List ℕ} → length q ≡ length (take (r .n) (s .men)) →
-      SetEliminated (r .n) (r .«man_ranks») l set (take (r .n) (s .men)) (length set) q → SetPlaces r l set (s .men) (q ++ drop (r .n) (s .men))
+-- and what it gives, put back into the array
+module _ {n : ℕ} {places : List ℕ} (few : n ≤ largest) (long : length places ≡ largest) (past : (i : ℕ) → n ≤ i → vec places i ≡ 0) where
+  pub places-set : {ranks l : List ℕ} (set : List ℕ) {q : List ℕ} → length q ≡ length (take n places) →
+      SetEliminated n ranks l set (take n places) (length set) q → SetPlaces n ranks l set places (q ++ drop n places)
   places-set set {q} e E =
-      let f = e ∙ length-take-le (r .n) (s .men) (omega (arith, P .men-long, U .few)) in
+      let f = e ∙ length-take-le n places (omega (arith, long, few)) in
       record {
-        is = λ A i u v. over-at (r .n) q (s .men) f i v ∙ E .is A i u;
-        past = λ i u. over-past (r .n) q (s .men) f i u ∙ P .men-past i u;
-        long = length-front (s .men) q (r .n) e ∙ P .men-long;
+        is = λ A i u v. over-at n q places f i v ∙ E .is A i u;
+        past = λ i u. over-past n q places f i u ∙ past i u;
+        long = length-front places q n e ∙ long;
       }
 
 module _ (I : Market) (s : ℕ → Bool) where

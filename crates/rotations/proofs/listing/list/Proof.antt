@@ -1,30 +1,27 @@
 -- `rotations::listing::list` meets its contract: where nothing is refused the numbers of the list are written, and otherwise nothing is.
--- `read` says that the book is well formed and the record is its own, `numbers` are the bytes lent to `copy`. Assumes nothing.
-use Prim.Native.Nat.{ℕ, _<_}
+-- `read` says that the book is well formed and the record is its own, `written` that the buffer is the one of the contract. Assumes nothing.
+use Prim.Native.Nat.{ℕ}
 use mathlib.Core.Path.{_≡_, sym, _∙_, ap, ap₂}
 use mathlib.Core.List.{List, _++_}
 use native.Mathlib.Omega.{arith}
-use lib.ListN.{length, take, drop}
-use lib.Seq.{length-take-le, getD-take}
+use lib.ListN.{length, drop, length-replicate}
 use Rattle.instance.specs.Check.{checkBook}
 use Rattle.instance.specs.Verdict.{Verdict, verdictOf}
 use Rattle.rotations.specs.RotationList.{listBytes, rotationCount, counting}
+use Rattle.rotations.specs.Laws.WriteCode.{listRoom}
 use Rattle.rotations.specs.Laws.Replies.{Read, record-read, read-usable, room-refused, room-short, room-fits, reply-refused, reply-fine}
 use Rattle.rotations.specs.Laws.BookList.{list-bytes, list-long, list-within, list-small, book-numbered}
 use borrow.Author.Needs.{needs}
 use Rattle.rotations.proofs.listing.list.Statement.{statement}
 use Rattle.rotations.proofs.listing.list.Tie as tie
 
-read : (c : tie.After-enum-told) → Read (c .before .before .before .before .before .before .args .book .now) (c .before .before .before .load .result .instance)
-read c = record-read (c .before .before .before .load .ensures) (ap verdictOf (c .enum-told .given .1))
+read : (c : tie.After-enum-told) → Read (c .before .before .before .before .before .args .book .now) (c .before .before .load .result .instance)
+read c = record-read (c .before .before .load .ensures) (ap verdictOf (c .enum-told .given .1))
 
-front : (c : tie.After-all-of) → length (take (c .all-of .result .end) (c .all-of .result .list)) ≡ c .all-of .result .end
-front c = length-take-le (c .all-of .result .end) (c .all-of .result .list) (list-within (read (c .before)) (c .all-of .ensures))
-
-written : (c : tie.After-slice-known2) → c .before .before .copy .last .1 .0 ≡ listBytes (c .before .before .before .before .before .before .before .before .before .before .before .before .before .before .args .book .now) ++ drop (length (listBytes (c .before .before .before .before .before .before .before .before .before .before .before .before .before .before .args .book .now))) (c .before .before .before .before .before .before .before .before .before .before .before .before .before .before .args .out .now)
+written : (c : tie.After-slice-known2) → c .before .before .copy .last .1 .1 .0 ≡ listBytes (c .before .before .before .before .before .before .before .before .before .before .before .before .before .before .before .before .before .before .before .before .before .before .before .before .before .before .before .args .book .now) ++ drop (length (listBytes (c .before .before .before .before .before .before .before .before .before .before .before .before .before .before .before .before .before .before .before .before .before .before .before .before .before .before .before .args .book .now))) (c .before .before .before .before .before .before .before .before .before .before .before .before .before .before .before .before .before .before .before .before .before .before .before .before .before .before .before .args .out .now)
 written c =
-    let R = read (c .before .before .before .before .before .before .before .before) in
-    c .before .before .copy .ensures ∙ ap₂ (λ (l : List ℕ) (n : ℕ). l ++ drop n (c .before .before .before .before .before .before .before .before .before .before .before .before .before .before .args .out .now)) (list-bytes R (c .before .before .before .before .before .before .before .all-of .ensures)) (front (c .before .before .before .before .before .before .before) ∙ sym (list-long R (c .before .before .before .before .before .before .before .all-of .ensures)))
+    let R = read (c .before .before .before .before .before .before .before .before .before .before .before .before .before .before .before .before .before .before .before .before .before .before) in
+    c .before .before .copy .ensures ∙ ap₂ (λ (l : List ℕ) (n : ℕ). l ++ drop n (c .before .before .before .before .before .before .before .before .before .before .before .before .before .before .before .before .before .before .before .before .before .before .before .before .before .before .before .args .out .now)) (list-bytes R (c .before .before .before .before .before .before .number-all .ensures)) (sym (list-long R (c .before .before .before .before .before .before .number-all .ensures)))
 
 load-requires : tie.Need-load-requires
 load-requires c κs = search needs
@@ -39,12 +36,15 @@ reply-requires : tie.Need-reply-requires
 reply-requires c κs = search needs
 
 returns : tie.Need-returns
-returns c = let b = c .before .before .before .before .before .before .before .args .book .now in let o = c .before .before .before .before .before .before .before .args .out .now in
-    let e = sym (c .before .before .before .before .load .ensures .checked) ∙ ap verdictOf (c .before .enum-told2 .given .1) in
+returns c = let b = c .before .before .before .before .before .before .args .book .now in let o = c .before .before .before .before .before .before .args .out .now in
+    let e = sym (c .before .before .before .load .ensures .checked) ∙ ap verdictOf (c .before .enum-told2 .given .1) in
     reply-refused (room-refused (checkBook b) (length (listBytes b)) (length o) e) (rotationCount b) (length (listBytes b)) (listBytes b) o (c .reply .ensures ∙ ap (λ (v : Verdict). counting v 0) (ap verdictOf (c .before .enum-told2 .given .1)))
 
-all-of-requires : tie.Need-all-of-requires
-all-of-requires c κs = read-usable (read c)
+man-optimal-places-requires : tie.Need-man-optimal-places-requires
+man-optimal-places-requires c κs = read-usable (read c)
+
+number-all-requires : tie.Need-number-all-requires
+number-all-requires c κs = (read-usable (read (c .before .before .before .before .before .before .before .before .before .before .before .before .before .before .before)), (c .before .before .before .before .before .before .before .before .before .before .before .before .before .before .man-optimal-places .ensures, length-replicate {A = ℕ} listRoom 0))
 
 refuse-requires : tie.Need-refuse-requires
 refuse-requires c κs = search needs
@@ -53,28 +53,24 @@ reply-requires-2 : tie.Need-reply-requires-2
 reply-requires-2 c κs = search needs
 
 returns-2 : tie.Need-returns-2
-returns-2 c = let b = c .before .before .before .before .before .before .before .before .before .before .args .book .now in let o = c .before .before .before .before .before .before .before .before .before .before .args .out .now in
-    let R = read (c .before .before .before .before) in
-    reply-refused (room-short (checkBook b) (length (listBytes b)) (length o) (R .fine) (omega (arith, list-long R (c .before .before .before .all-of .ensures), c .before .before .if1 .taken))) (rotationCount b) (length (listBytes b)) (listBytes b) o (c .reply2 .ensures ∙ ap (λ (v : Verdict). counting v 0) (c .before .refuse .ensures))
-
-array-share-prefix-numbers : tie.Need-array-share-prefix-numbers
-array-share-prefix-numbers c = list-within (read (c .before .before .before)) (c .before .before .all-of .ensures)
+returns-2 c = let b = c .before .before .before .before .before .before .before .before .before .before .before .before .before .before .before .before .before .before .before .before .before .before .before .before .args .book .now in let o = c .before .before .before .before .before .before .before .before .before .before .before .before .before .before .before .before .before .before .before .before .before .before .before .before .args .out .now in
+    let R = read (c .before .before .before .before .before .before .before .before .before .before .before .before .before .before .before .before .before .before .before) in
+    reply-refused (room-short (checkBook b) (length (listBytes b)) (length o) (R .fine) (omega (arith, list-long R (c .before .before .before .number-all .ensures), c .before .before .if1 .taken))) (rotationCount b) (length (listBytes b)) (listBytes b) o (c .reply2 .ensures ∙ ap (λ (v : Verdict). counting v 0) (c .before .refuse .ensures))
 
 slice-aggregate-copy : tie.Need-slice-aggregate-copy
-slice-aggregate-copy c = sym (front (c .before .before .before))
+slice-aggregate-copy c = sym (c .before .before .number-all .ensures .long)
 
 copy-requires : tie.Need-copy-requires
-copy-requires c κs = let R = read (c .before .before .before .before .before) in
-    let e = front (c .before .before .before .before) in
-    (omega (arith, e, c .before .before .before .if1 .left), λ v u. let h : v < c .before .before .before .before .all-of .result .end = omega arith in rw (getD-take (c .before .before .before .before .all-of .result .end) (c .before .before .before .before .all-of .result .list) v 0 h) (list-small R (c .before .before .before .before .all-of .ensures) v h))
+copy-requires c κs = let R = read (c .before .before .before .before .before .before .before .before .before .before .before .before .before .before .before .before .before .before .before) in
+    ((list-within R (c .before .before .before .number-all .ensures), omega (arith, c .before .before .if1 .left)), list-small R (c .before .before .before .number-all .ensures))
 
 same-length : tie.Need-same-length
 same-length c = search needs
 
 returns-3 : tie.Need-returns-3
-returns-3 c = let b = c .before .before .before .before .before .before .before .before .before .before .before .before .before .before .args .book .now in let o = c .before .before .before .before .before .before .before .before .before .before .before .before .before .before .args .out .now in
-    let R = read (c .before .before .before .before .before .before .before .before) in
-    reply-fine (room-fits (checkBook b) (length (listBytes b)) (length o) (R .fine) (omega (arith, list-long R (c .before .before .before .before .before .before .before .all-of .ensures), c .before .before .before .before .before .before .if1 .left))) (book-numbered R (c .before .before .before .before .before .before .before .all-of .ensures) .count) (length (listBytes b)) (listBytes b) o (c .before .before .copy .last .1 .0) (written c)
+returns-3 c = let b = c .before .before .before .before .before .before .before .before .before .before .before .before .before .before .before .before .before .before .before .before .before .before .before .before .before .before .before .args .book .now in let o = c .before .before .before .before .before .before .before .before .before .before .before .before .before .before .before .before .before .before .before .before .before .before .before .before .before .before .before .args .out .now in
+    let R = read (c .before .before .before .before .before .before .before .before .before .before .before .before .before .before .before .before .before .before .before .before .before .before) in
+    reply-fine (room-fits (checkBook b) (length (listBytes b)) (length o) (R .fine) (omega (arith, list-long R (c .before .before .before .before .before .before .number-all .ensures), c .before .before .before .before .before .if1 .left))) (book-numbered R (c .before .before .before .before .before .before .number-all .ensures) .count) (length (listBytes b)) (listBytes b) o (c .before .before .copy .last .1 .1 .0) (written c)
 
 pub list-spec : {M : Type 1} → statement M
 list-spec =
@@ -85,11 +81,11 @@ list-spec =
     enum-told-2
     reply-requires
     returns
-    all-of-requires
+    man-optimal-places-requires
+    number-all-requires
     refuse-requires
     reply-requires-2
     returns-2
-    array-share-prefix-numbers
     slice-aggregate-copy
     copy-requires
     same-length

@@ -1,12 +1,15 @@
--- `rotations::sets::matching_to_set` meets its contract: rule 14 after the matching's, and then the set of the matching. `passed` says that nothing
--- is refused before rule 14, `count` that the code's number of rotations is the book's. Assumes nothing.
+-- `rotations::sets::matching_to_set` meets its contract: rule 14 after the matching's, and then the set of the matching. `judged` is what
+-- the check answers for the book, `passed` says that nothing is refused before rule 14, `count` that the code's number of rotations is the book's. Assumes nothing.
+use Prim.Native.Nat.{ℕ}
 use mathlib.Core.Path.{_≡_, sym, _∙_, ap}
 use native.Mathlib.Omega.{arith}
-use lib.ListN.{length}
+use lib.ListN.{length, length-replicate}
 use borrow.Author.Needs.{needs}
 use Rattle.instance.specs.Verdict.{Verdict, fine, verdictOf}
 use Rattle.matching.specs.Matching.{checkMatching}
+use Rattle.matching.specs.Judge.{JudgedIs}
 use Rattle.rotations.specs.RotationList.{rotationCount, counting}
+use Rattle.rotations.specs.Laws.WriteCode.{listRoom}
 use Rattle.rotations.specs.Laws.Replies.{read-usable, room-refused, room-short, room-fits, reply-refused, reply-fine}
 use Rattle.rotations.specs.Laws.BookOrder.{book-readable}
 use Rattle.rotations.specs.Laws.MatchingSets.{judged-read, judged-room, judged-count, judged-set}
@@ -14,14 +17,20 @@ use Rattle.rotations.specs.Sets.{matchingSet}
 use Rattle.rotations.proofs.sets.matching_to_set.Statement.{statement}
 use Rattle.rotations.proofs.sets.matching_to_set.Tie as tie
 
-passed : (c : tie.After-enum-told) → checkMatching (c .before .before .before .before .before .before .before .before .args .book .now) (c .before .before .before .before .before .before .before .before .args .matching .now) ≡ fine
-passed c = sym (c .before .before .before .before .judge .ensures .checked) ∙ ap verdictOf (c .enum-told .given .1)
+judged : (c : tie.After-judge) → JudgedIs (c .before .before .before .before .before .args .book .now) (c .before .before .before .before .before .args .matching .now) (c .judge .result)
+judged c = c .judge .ensures _ (c .before .load .ensures)
 
-count : (c : tie.After-all-of) → c .all-of .result .count ≡ rotationCount (c .before .before .before .before .before .before .before .before .before .args .book .now)
-count c = judged-count (c .before .before .before .before .before .judge .ensures) (passed (c .before)) (c .all-of .ensures)
+passed : (c : tie.After-enum-told) → checkMatching (c .before .before .before .before .before .before .before .args .book .now) (c .before .before .before .before .before .before .before .args .matching .now) ≡ fine
+passed c = sym (judged (c .before .before) .checked) ∙ ap verdictOf (c .enum-told .given .1)
+
+count : (c : tie.After-number-all) → c .number-all .result .count ≡ rotationCount (c .before .before .before .before .before .before .before .before .before .before .before .before .before .before .before .before .before .before .before .before .before .before .before .args .book .now)
+count c = judged-count (c .before .before .before .before .before .before .before .before .before .before .before .before .before .before .before .before .before .before .before .load .ensures) (judged (c .before .before .before .before .before .before .before .before .before .before .before .before .before .before .before .before .before .before)) (passed (c .before .before .before .before .before .before .before .before .before .before .before .before .before .before .before .before)) (c .number-all .ensures)
+
+load-requires : tie.Need-load-requires
+load-requires c κs = search needs
 
 judge-requires : tie.Need-judge-requires
-judge-requires c κs = search needs
+judge-requires c κs = record { book = _; recorded = c .load .ensures }
 
 enum-told : tie.Need-enum-told
 enum-told c = search needs
@@ -34,14 +43,17 @@ reply-requires c κs = search needs
 
 returns : tie.Need-returns
 returns c =
-    let b = c .before .before .before .before .before .before .before .before .before .args .book .now in
-    let m = c .before .before .before .before .before .before .before .before .before .args .matching .now in
-    let o = c .before .before .before .before .before .before .before .before .before .args .out .now in
+    let b = c .before .before .before .before .before .before .before .before .args .book .now in
+    let m = c .before .before .before .before .before .before .before .before .args .matching .now in
+    let o = c .before .before .before .before .before .before .before .before .args .out .now in
     let e = ap verdictOf (c .before .enum-told2 .given .1) in
-    reply-refused (room-refused (checkMatching b m) (rotationCount b) (length o) (sym (c .before .before .before .before .before .judge .ensures .checked) ∙ e)) (rotationCount b) (rotationCount b) (matchingSet b m) o (c .reply .ensures ∙ ap (λ (v : Verdict). counting v 0) e)
+    reply-refused (room-refused (checkMatching b m) (rotationCount b) (length o) (sym (judged (c .before .before .before) .checked) ∙ e)) (rotationCount b) (rotationCount b) (matchingSet b m) o (c .reply .ensures ∙ ap (λ (v : Verdict). counting v 0) e)
 
-all-of-requires : tie.Need-all-of-requires
-all-of-requires c κs = read-usable (judged-read (c .before .before .before .before .judge .ensures) (passed c))
+man-optimal-places-requires : tie.Need-man-optimal-places-requires
+man-optimal-places-requires c κs = read-usable (judged-read (c .before .before .before .load .ensures) (judged (c .before .before)) (passed c))
+
+number-all-requires : tie.Need-number-all-requires
+number-all-requires c κs = (read-usable (judged-read (c .before .before .before .before .before .before .before .before .before .before .before .before .before .before .before .before .before .before .load .ensures) (judged (c .before .before .before .before .before .before .before .before .before .before .before .before .before .before .before .before .before)) (passed (c .before .before .before .before .before .before .before .before .before .before .before .before .before .before .before))), (c .before .before .before .before .before .before .before .before .before .before .before .before .before .before .man-optimal-places .ensures, length-replicate {A = ℕ} listRoom 0))
 
 refuse-requires : tie.Need-refuse-requires
 refuse-requires c κs = search needs
@@ -51,43 +63,47 @@ reply-requires-2 c κs = search needs
 
 returns-2 : tie.Need-returns-2
 returns-2 c =
-    let b = c .before .before .before .before .before .before .before .before .before .before .before .before .args .book .now in
-    let m = c .before .before .before .before .before .before .before .before .before .before .before .before .args .matching .now in
-    let o = c .before .before .before .before .before .before .before .before .before .before .before .before .args .out .now in
-    reply-refused (room-short (checkMatching b m) (rotationCount b) (length o) (passed (c .before .before .before .before)) (omega (arith, count (c .before .before .before), c .before .before .if1 .taken))) (rotationCount b) (rotationCount b) (matchingSet b m) o (c .reply2 .ensures ∙ ap (λ (v : Verdict). counting v 0) (c .before .refuse .ensures))
+    let b = c .before .before .before .before .before .before .before .before .before .before .before .before .before .before .before .before .before .before .before .before .before .before .before .before .before .before .args .book .now in
+    let m = c .before .before .before .before .before .before .before .before .before .before .before .before .before .before .before .before .before .before .before .before .before .before .before .before .before .before .args .matching .now in
+    let o = c .before .before .before .before .before .before .before .before .before .before .before .before .before .before .before .before .before .before .before .before .before .before .before .before .before .before .args .out .now in
+    reply-refused (room-short (checkMatching b m) (rotationCount b) (length o) (passed (c .before .before .before .before .before .before .before .before .before .before .before .before .before .before .before .before .before .before .before)) (omega (arith, count (c .before .before .before), c .before .before .if1 .taken))) (rotationCount b) (rotationCount b) (matchingSet b m) o (c .reply2 .ensures ∙ ap (λ (v : Verdict). counting v 0) (c .before .refuse .ensures))
 
 slice-aggregate-write-set : tie.Need-slice-aggregate-write-set
-slice-aggregate-write-set c = search needs
+slice-aggregate-write-set c = sym (c .before .before .before .before .before .number-all .ensures .long)
 
 write-set-requires : tie.Need-write-set-requires
 write-set-requires c κs =
-    let J = c .before .before .before .before .before .before .before .before .before .before .before .before .before .before .before .judge .ensures in
-    let f = passed (c .before .before .before .before .before .before .before .before .before .before .before) in
-    let h = judged-room J f in
-    (rw (count (c .before .before .before .before .before .before .before .before .before .before)) (book-readable (judged-read J f) (c .before .before .before .before .before .before .before .before .before .before .all-of .ensures)), (h .0, h .1, omega (arith, c .before .before .before .before .before .before .before .before .before .if1 .left)))
+    let R = c .before .before .before .before .before .before .before .before .before .before .before .before .before .before .before .before .before .before .before .before .before .before .before .before .before .before .before .before .load .ensures in
+    let J = judged (c .before .before .before .before .before .before .before .before .before .before .before .before .before .before .before .before .before .before .before .before .before .before .before .before .before .before .before) in
+    let f = passed (c .before .before .before .before .before .before .before .before .before .before .before .before .before .before .before .before .before .before .before .before .before .before .before .before .before) in
+    let h = judged-room R J f in
+    (rw (count (c .before .before .before .before .before .before .before .before .before)) (book-readable (judged-read R J f) (c .before .before .before .before .before .before .before .before .before .number-all .ensures)), (h .0, h .1, omega (arith, c .before .before .before .before .before .before .before .before .if1 .left)))
 
 same-length : tie.Need-same-length
 same-length c = search needs
 
 returns-3 : tie.Need-returns-3
 returns-3 c =
-    let b = c .before .before .before .before .before .before .before .before .before .before .before .before .before .before .before .before .before .before .before .before .before .before .args .book .now in
-    let m = c .before .before .before .before .before .before .before .before .before .before .before .before .before .before .before .before .before .before .before .before .before .before .args .matching .now in
-    let o = c .before .before .before .before .before .before .before .before .before .before .before .before .before .before .before .before .before .before .before .before .before .before .args .out .now in
-    let J = c .before .before .before .before .before .before .before .before .before .before .before .before .before .before .before .before .before .before .judge .ensures in
-    let f = passed (c .before .before .before .before .before .before .before .before .before .before .before .before .before .before) in
-    reply-fine (room-fits (checkMatching b m) (rotationCount b) (length o) f (omega (arith, count (c .before .before .before .before .before .before .before .before .before .before .before .before .before), c .before .before .before .before .before .before .before .before .before .before .before .before .if1 .left))) (count (c .before .before .before .before .before .before .before .before .before .before .before .before .before)) (rotationCount b) (matchingSet b m) o _ (judged-set J f (c .before .before .before .before .before .before .before .before .before .before .before .before .before .all-of .ensures) o _ (c .before .before .write-set .ensures))
+    let b = c .before .before .before .before .before .before .before .before .before .before .before .before .before .before .before .before .before .before .before .before .before .before .before .before .before .before .before .before .before .before .before .before .before .before .before .args .book .now in
+    let m = c .before .before .before .before .before .before .before .before .before .before .before .before .before .before .before .before .before .before .before .before .before .before .before .before .before .before .before .before .before .before .before .before .before .before .before .args .matching .now in
+    let o = c .before .before .before .before .before .before .before .before .before .before .before .before .before .before .before .before .before .before .before .before .before .before .before .before .before .before .before .before .before .before .before .before .before .before .before .args .out .now in
+    let R = c .before .before .before .before .before .before .before .before .before .before .before .before .before .before .before .before .before .before .before .before .before .before .before .before .before .before .before .before .before .before .before .load .ensures in
+    let J = judged (c .before .before .before .before .before .before .before .before .before .before .before .before .before .before .before .before .before .before .before .before .before .before .before .before .before .before .before .before .before .before) in
+    let f = passed (c .before .before .before .before .before .before .before .before .before .before .before .before .before .before .before .before .before .before .before .before .before .before .before .before .before .before .before .before) in
+    reply-fine (room-fits (checkMatching b m) (rotationCount b) (length o) f (omega (arith, count (c .before .before .before .before .before .before .before .before .before .before .before .before), c .before .before .before .before .before .before .before .before .before .before .before .if1 .left))) (count (c .before .before .before .before .before .before .before .before .before .before .before .before)) (rotationCount b) (matchingSet b m) o _ (judged-set R J f (c .before .before .before .before .before .before .before .before .before .before .before .before .number-all .ensures) o _ (c .before .before .write-set .ensures))
 
 pub matching-to-set-spec : {M : Type 1} → statement M
 matching-to-set-spec =
     tie.close
     (tie.spec
+    load-requires
     judge-requires
     enum-told
     enum-told-2
     reply-requires
     returns
-    all-of-requires
+    man-optimal-places-requires
+    number-all-requires
     refuse-requires
     reply-requires-2
     returns-2

@@ -1,3 +1,5 @@
+-- `sheet_lines::answers::fill_answers` meets its contract. The loop's invariant: the letters and distances of the men before s are stored. The
+-- measure is the number of men left. Assumes nothing.
 use Prim.Native.Nat.{_-_}
 use mathlib.Core.Path.{_≡_, refl}
 use native.Mathlib.Omega.{arith}
@@ -8,17 +10,13 @@ use Rattle.sheet_lines.specs.Answered.{Answered}
 use Rattle.sheet_lines.specs.Laws.Answered.{answered-start, answered-on, answered-end}
 use Rattle.sheet_lines.proofs.answers.fill_answers.Statement.{statement}
 use Rattle.sheet_lines.proofs.answers.fill_answers.Tie as tie
-use Rattle.sheet_lines.proofs.answers.fill_answers.Reads as reads
-use Rattle.sheet_lines.proofs.answers.fill_answers.Lts as lts
-use Rattle.repair.proofs.nearest.Reads as nearest-reads
-use Rattle.sheet_lines.proofs.answers.letter_byte.Reads as letter-byte-reads
 
 abbrev Inv-loop : tie.InvT-loop
-Inv-loop n mlens mlists mranks wlens wlists wranks men women letters₀ distances₀ s₀ letters distances s =
+Inv-loop n mlens mlists mranks wlens wlists wranks men women ends ends′ letters₀ distances₀ s₀ letters distances s =
     (Answered (marketOf n n mlens mlists wlens wlists) (vec men) n s letters distances) × (length letters ≡ length letters₀) × (length distances ≡ length distances₀)
 
 abbrev μ-loop : tie.MeasureT-loop
-μ-loop n mlens mlists mranks wlens wlists wranks men women letters₀ distances₀ s₀ letters distances s =
+μ-loop n mlens mlists mranks wlens wlists wranks men women ends ends′ letters₀ distances₀ s₀ letters distances s =
     n - s
 
 loop-holds : tie.Need-loop-holds Inv-loop μ-loop

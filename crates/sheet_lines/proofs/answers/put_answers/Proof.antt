@@ -7,12 +7,19 @@ use native.Mathlib.Omega.{arith}
 use lib.ListN.{length, length-append}
 use borrow.Author.Needs.{needs}
 use Rattle.laws.specs.Values.{vec}
+use Rattle.repair.specs.Laws.Ends.{given-extremes}
 use Rattle.sheet_lines.specs.Line.{topLine, pairLines}
 use Rattle.sheet_lines.specs.Over.{sheetOver}
 use Rattle.sheet_lines.specs.Laws.Put.{put-on}
 use Rattle.sheet_lines.specs.Laws.Over.{sheet-in}
 use Rattle.sheet_lines.proofs.answers.put_answers.Statement.{statement}
 use Rattle.sheet_lines.proofs.answers.put_answers.Tie as tie
+
+woman-optimal-places-requires : tie.Need-woman-optimal-places-requires
+woman-optimal-places-requires c κs = search needs
+
+man-optimal-places-requires : tie.Need-man-optimal-places-requires
+man-optimal-places-requires c κs = search needs
 
 slice-aggregate-fill-answers : tie.Need-slice-aggregate-fill-answers
 slice-aggregate-fill-answers c = search needs
@@ -21,7 +28,10 @@ slice-aggregate-fill-answers-2 : tie.Need-slice-aggregate-fill-answers-2
 slice-aggregate-fill-answers-2 c = search needs
 
 fill-answers-requires : tie.Need-fill-answers-requires
-fill-answers-requires c κs = search needs
+fill-answers-requires c κs =
+    let d = c .before .before .before .before .before .before .before .before .before .before .before .before .before .before .before .before .before in
+    let s = d .before .before .before .before .before .before in
+    (given-extremes (s .pre .0 .0) (s .pre .0 .1) (d .before .woman-optimal-places .ensures) (d .man-optimal-places .ensures), (omega (arith, s .pre .0 .1 .few), omega (arith, s .pre .0 .1 .few)))
 
 slice-aggregate-grade-of : tie.Need-slice-aggregate-grade-of
 slice-aggregate-grade-of c = search needs
@@ -30,24 +40,28 @@ grade-of-requires : tie.Need-grade-of-requires
 grade-of-requires c κs = search needs
 
 count-requires : tie.Need-count-requires
-count-requires c κs = search needs
+count-requires c κs = let s = c .before .before .before .before .before .before .before .before .before .before .before .before .before .before .before .before .before .before .before .before .before .before .before .before .before .before .before .before in s .pre .0 .0
+
+-- where the function is entered
+abbrev start : tie.After-count → tie.Start
+start c = c .before .before .before .before .before .before .before .before .before .before .before .before .before .before .before .before .before .before .before .before .before .before .before .before .before .before .before .before .before
 
 -- line one, and the lines of the pairs
 top : tie.After-count → List ℕ
-top c = topLine (c .before .before .before .before .before .before .before .before .before .before .before .before .before .before .before .before .before .before .before .before .before .before .before .before .before .before .args .judged .instance .n) (c .count .result) (c .before .grade-of .result)
+top c = topLine (start c .args .t1 .instance .n) (c .count .result) (c .before .grade-of .result)
 
 pairs : tie.After-count → List ℕ
 pairs c =
-    pairLines (vec (c .before .before .before .before .before .before .before .before .before .before .before .before .before .before .before .before .before .before .before .before .before .before .before .before .before .before .args .matching .now)) (vec (c .before .before .before .before .before .fill-answers .last .1 .1 .1 .1 .1 .1 .1 .1 .1 .0)) (vec (c .before .before .before .before .before .fill-answers .last .1 .1 .1 .1 .1 .1 .1 .1 .1 .1 .0)) (c .before .before .before .before .before .before .before .before .before .before .before .before .before .before .before .before .before .before .before .before .before .before .before .before .before .before .args .judged .instance .n)
+    pairLines (vec (start c .args .matching .now)) (vec (c .before .before .before .before .before .fill-answers .last .1 .1 .1 .1 .1 .1 .1 .1 .1 .1 .1 .0)) (vec (c .before .before .before .before .before .fill-answers .last .1 .1 .1 .1 .1 .1 .1 .1 .1 .1 .1 .1 .0)) (start c .args .t1 .instance .n)
 
 -- are the sheet
-whole : (c : tie.After-count) → top c ++ pairs c ≡ sheetOver (c .before .before .before .before .before .before .before .before .before .before .before .before .before .before .before .before .before .before .before .before .before .before .before .before .before .before .args .judged) (c .before .before .before .before .before .before .before .before .before .before .before .before .before .before .before .before .before .before .before .before .before .before .before .before .before .before .args .matching .now)
+whole : (c : tie.After-count) → top c ++ pairs c ≡ sheetOver (start c .args .t1) (start c .args .judged) (start c .args .matching .now)
 unfolding top pairs
-whole c = sheet-in (c .before .before .before .before .before .fill-answers .ensures) (c .before .before .before .before .before .before .before .before .before .before .before .before .before .before .before .before .before .before .before .before .before .before .before .before .before .before .args .matching .now) (c .count .ensures) (c .before .grade-of .ensures)
+whole c = sheet-in (c .before .before .before .before .before .fill-answers .ensures) (start c .args .matching .now) (c .count .ensures) (c .before .grade-of .ensures)
 
 put-top-requires : tie.Need-put-top-requires
 unfolding top
-put-top-requires c κs = omega (arith, length-append (top (c .before)) (pairs (c .before)), ap length (whole (c .before)))
+put-top-requires c κs = omega (arith, start (c .before) .pre .1 .1, length-append (top (c .before)) (pairs (c .before)), ap length (whole (c .before)))
 
 slice-aggregate-put-pairs : tie.Need-slice-aggregate-put-pairs
 slice-aggregate-put-pairs c = search needs
@@ -59,10 +73,10 @@ put-pairs-requires : tie.Need-put-pairs-requires
 unfolding top pairs
 put-pairs-requires c κs =
     let A = c .before .before .before .before .before .before .before .before .before .before .before .before .fill-answers .ensures in (
-      c .before .before .before .before .before .before .before .before .before .before .before .before .before .before .before .before .before .before .before .before .before .before .before .before .before .before .before .before .before .before .before .before .before .pre .1 .0,
+      start (c .before .before .before .before .before .before .before) .pre .1 .0,
       A .letters-long,
       A .distances-long,
-      omega (arith, length-append (top (c .before .before .before .before .before .before .before)) (pairs (c .before .before .before .before .before .before .before)), ap length (whole (c .before .before .before .before .before .before .before)), c .before .before .before .before .before .before .before .before .before .before .before .before .before .before .before .before .before .before .before .before .before .before .before .before .before .before .before .before .before .before .before .before .before .pre .1 .1),
+      omega (arith, length-append (top (c .before .before .before .before .before .before .before)) (pairs (c .before .before .before .before .before .before .before)), ap length (whole (c .before .before .before .before .before .before .before)), start (c .before .before .before .before .before .before .before) .pre .1 .1),
     )
 
 same-length : tie.Need-same-length
@@ -76,6 +90,8 @@ pub put-answers-spec : {M : Type 1} → statement M
 put-answers-spec =
     tie.close
     (tie.spec
+    woman-optimal-places-requires
+    man-optimal-places-requires
     slice-aggregate-fill-answers
     slice-aggregate-fill-answers-2
     fill-answers-requires

@@ -1,9 +1,12 @@
 -- `sheet_lines::sheet::put_sheet` meets its contract: the line of the refusal, or the answers where the check refused nothing. Assumes nothing.
 use mathlib.Core.Path.{_≡_, sym, _∙_, ap}
+use mathlib.Core.List.{List}
+use Prim.Native.Nat.{ℕ}
 use native.Mathlib.Omega.{arith}
 use lib.ListN.{length, take}
 use lib.Seq.{length-take-le}
 use Rattle.instance.specs.Verdict.{fine, verdictOf}
+use Rattle.matching.specs.Judge.{book-judged}
 use Rattle.matching.specs.Matching.{checkMatching}
 use Rattle.repair.specs.Laws.Book.{judged-given}
 use Rattle.sheet_lines.specs.Sheet.{sheetOf}
@@ -18,8 +21,11 @@ use Rattle.sheet_lines.proofs.sheet.put_sheet.Tie as tie
 book-end-requires : tie.Need-book-end-requires
 book-end-requires c κs = search needs
 
-slice-aggregate-judge : tie.Need-slice-aggregate-judge
-slice-aggregate-judge c = sym (length-take-le _ _ (end-within (c .before .before .before .before .args .input .now) (c .before .book-end .ensures)))
+slice-aggregate-load : tie.Need-slice-aggregate-load
+slice-aggregate-load c = sym (length-take-le _ _ (end-within (c .before .before .before .before .args .input .now) (c .before .book-end .ensures)))
+
+load-requires : tie.Need-load-requires
+load-requires c κs = search needs
 
 sub-judge : tie.Need-sub-judge
 sub-judge c = search needs
@@ -31,7 +37,7 @@ part-judge-end : tie.Need-part-judge-end
 part-judge-end c = search needs
 
 judge-requires : tie.Need-judge-requires
-judge-requires c κs = search needs
+judge-requires c κs = record { book = _; recorded = c .before .load .ensures }
 
 enum-told : tie.Need-enum-told
 enum-told c = search needs
@@ -47,18 +53,27 @@ same-length c = search needs
 
 returns : tie.Need-returns
 returns c =
-    rw (sheet-refusal (c .before .before .before .before .before .before .before .before .before .before .before .before .args .input .now) (c .before .before .before .before .before .before .before .before .before .book-end .ensures) (c .before .before .before .before .before .before .judge .ensures .checked) (c .before .before .before .before .enum-told2 .given .1))
+    let d = c .before .before .before .before .before .before in
+    rw (sheet-refusal (d .before .before .before .before .before .before .before .args .input .now) (d .before .before .before .before .book-end .ensures) (d .judge .ensures _ (d .before .before .load .ensures) .checked) (c .before .before .before .before .enum-told2 .given .1))
     (c .before .before .put-refused .ensures)
 
+-- what was read, and where its book ends
+abbrev read : tie.After-judge → List ℕ
+read c = c .before .before .before .before .before .before .before .args .input .now
+
+abbrev end : tie.After-judge → ℕ
+end c = c .before .before .before .before .book-end .result
+
 -- nothing is refused where the check answered so
-passed : (c : tie.After-enum-told) → checkMatching (take (c .before .before .before .before .before .book-end .result) (c .before .before .before .before .before .before .before .before .args .input .now)) (rest (c .before .before .before .before .before .before .before .before .args .input .now) (c .before .before .before .before .before .book-end .result)) ≡ fine
-passed c = sym (c .before .before .judge .ensures .checked) ∙ ap verdictOf (c .enum-told .given .1)
+passed : (c : tie.After-enum-told) → checkMatching (take (end (c .before .before)) (read (c .before .before))) (rest (read (c .before .before)) (end (c .before .before))) ≡ fine
+passed c = let d = c .before .before in sym (d .judge .ensures _ (d .before .before .load .ensures) .checked) ∙ ap verdictOf (c .enum-told .given .1)
 
 -- so the sheet over what the check leaves is the sheet
-whole : (c : tie.After-enum-told) → sheetOver (c .before .before .judge .result) (rest (c .before .before .before .before .before .before .before .before .args .input .now) (c .before .before .before .before .before .book-end .result)) ≡ sheetOf (c .before .before .before .before .before .before .before .before .args .input .now)
+whole : (c : tie.After-enum-told) → sheetOver (c .before .before .before .before .load .result) (c .before .before .judge .result) (rest (read (c .before .before)) (end (c .before .before))) ≡ sheetOf (read (c .before .before))
 whole c =
-    let J = c .before .before .judge .ensures in
-    sheet-over J (passed c) (totals J (passed c)) ∙ sym (sheet-answers (c .before .before .before .before .before .before .before .before .args .input .now) (c .before .before .before .before .before .book-end .ensures) (passed c))
+    let d = c .before .before in
+    let J = book-judged (d .before .before .load .ensures) (d .judge .ensures) in
+    sheet-over J (passed c) (totals J (passed c)) ∙ sym (sheet-answers (read d) (d .before .before .before .before .book-end .ensures) (passed c))
 
 sub-put-answers : tie.Need-sub-put-answers
 sub-put-answers c = search needs
@@ -71,9 +86,10 @@ part-put-answers-end c = search needs
 
 put-answers-requires : tie.Need-put-answers-requires
 put-answers-requires c κs =
-    let J = c .before .before .before .before .judge .ensures in
+    let d = c .before .before .before .before in
+    let J = book-judged (d .before .before .load .ensures) (d .judge .ensures) in
     let f = passed (c .before .before) in
-    ((record-usable J f, judged-given J f), (matching-long J f, omega (arith, ap length (whole (c .before .before)), sheet-short (c .before .before .before .before .before .before .before .before .before .before .args .input .now))))
+    ((record-usable J f, judged-given J f), (matching-long J f, omega (arith, ap length (whole (c .before .before)), sheet-short (read d))))
 
 same-length-2 : tie.Need-same-length-2
 same-length-2 c = search needs
@@ -86,7 +102,8 @@ put-sheet-spec =
     tie.close
     (tie.spec
     book-end-requires
-    slice-aggregate-judge
+    slice-aggregate-load
+    load-requires
     sub-judge
     part-judge-start
     part-judge-end
