@@ -2,12 +2,11 @@
 -- says, and one computed fact that covers its rows. Books and matchings are the bytes of document 01. Assumes nothing.
 use Prim.Native.Nat.{ℕ, _<_}
 use mathlib.Core.Path.{_≡_, refl}
-use mathlib.Core.Bool.{Bool, true, not}
+use mathlib.Core.Bool.{true}
 use mathlib.Core.List.{List, [], _∷_, _++_}
-use lib.Dec.{eqb, ltb}
 use lib.ListN.{length, getD}
 use Rattle.laws.specs.Cycle.{returns, period, backAfter}
-use Rattle.instance.specs.Verdict.{Verdict, fine, refused, rule}
+use Rattle.instance.specs.Verdict.{Verdict, fine, refused}
 use Rattle.instance.specs.Format.{offset, listLength, due, entry, size}
 use Rattle.instance.specs.Lists.{firstFaulty, firstFaultyList, checkLists}
 use Rattle.instance.specs.Check.{firstMisfiled, checkBook}
@@ -20,12 +19,13 @@ use Rattle.stable_theory.specs.Matchings.Matching.{places, partners}
 use Rattle.stable_theory.specs.Repairs.Repair.{down, up, moved, weight}
 use Rattle.stable_theory.specs.Repairs.Answer.{answerOf, nearer, cost, robustness}
 use Rattle.stable_theory.specs.Rotations.Rotation.{eliminate, pairOf, passed}
-use Rattle.stable_theory.specs.Rotations.Numbering.{preferred, willing, nextPlace, follow, followers, lowest, rotationAt, rotationsFrom, rotations, total, rotation}
+use Rattle.stable_theory.specs.Rotations.Numbering.{preferred, willing, nextPlace, follow, followers, lowest, rotationAt, rotationsFrom, rotations, rotation}
 use Rattle.stable_theory.specs.Rotations.Subset.{after, vectorOf, required, precedes, closed}
 use Rattle.matching.specs.BookMarket.{market}
 use Rattle.matching.specs.Matching.{blocks, bestBlocking, lowestBlocking, checkNames, checkStable, checkMatching}
-use Rattle.matching.specs.Extreme.{manOptimal, womanOptimal, matchingOf}
+use Rattle.matching.specs.Extreme.{manOptimal, womanOptimal}
 use Rattle.rotations.specs.RotationList.{rotationBytes}
+use Rattle.rotations.specs.Sets.{badMarks, checkSet, setMatching}
 use Rattle.sheet_lines.specs.Decimal.{decimalIn, decimal}
 use Rattle.sheet_lines.specs.Line.{line, topLine, pairLine, pairLines, refusalLine}
 use Rattle.sheet_lines.specs.Sheet.{answers, sheetOf}
@@ -76,13 +76,6 @@ abbrev pub numbers : Verdict → List ℕ
 numbers fine = []
 numbers (refused number place second) = number ∷ place ∷ second ∷ []
 
--- The matching of a set of Table 1's rotations, and the verdict on the set: 16
-abbrev pub fromSet : (ℕ → Bool) → List ℕ
-fromSet set = matchingOf table1 (vectorOf (market table1) (total (market table1)) (rotation (market table1)) set)
-
-abbrev pub checkSet : (ℕ → Bool) → Verdict
-checkSet set = rule (not (closed (market table1) (total (market table1)) (rotation (market table1)) set)) 16 0 fine
-
 -- Each row: what is computed, and what document 01 says
 abbrev pub table : List Row
 table =
@@ -105,9 +98,10 @@ table =
     -- rotation 1: (1,4) (6,5) (5,0)
     (rotationBytes (rotation (market table1) 1), 3 ∷ 1 ∷ 4 ∷ 6 ∷ 5 ∷ 5 ∷ 0 ∷ []) ∷
     -- set 0, 1, 2
-    (fromSet (λ k. ltb k 3), 4 ∷ 5 ∷ 6 ∷ 3 ∷ 1 ∷ 2 ∷ 0 ∷ []) ∷
+    (setMatching table1 (1 ∷ 1 ∷ 1 ∷ 0 ∷ 0 ∷ 0 ∷ []), 4 ∷ 5 ∷ 6 ∷ 3 ∷ 1 ∷ 2 ∷ 0 ∷ []) ∷
+    (numbers (checkSet table1 (1 ∷ 1 ∷ 1 ∷ 0 ∷ 0 ∷ 0 ∷ []) 7), []) ∷
     -- set 2 alone: refused 16
-    (numbers (checkSet (λ k. eqb k 2)), 16 ∷ 0 ∷ 0 ∷ []) ∷
+    (numbers (checkSet table1 (0 ∷ 0 ∷ 1 ∷ 0 ∷ 0 ∷ 0 ∷ []) 7), 16 ∷ 0 ∷ 0 ∷ []) ∷
     -- the sheet of section 'The sheet'
     (sheetOf (table1 ++ (4 ∷ 5 ∷ 6 ∷ 3 ∷ 1 ∷ 2 ∷ 0 ∷ [])), 55 ∷ 32 ∷ 54 ∷ 32 ∷ 51 ∷ 10 ∷ 48 ∷ 32 ∷ 52 ∷ 32 ∷ 85 ∷ 32 ∷ 50 ∷ 10 ∷ 49 ∷ 32 ∷ 53 ∷ 32 ∷ 85 ∷ 32 ∷ 52 ∷ 10 ∷ 50 ∷ 32 ∷ 54 ∷ 32 ∷ 68 ∷ 32 ∷ 50 ∷ 10 ∷ 51 ∷ 32 ∷ 51 ∷ 32 ∷ 68 ∷ 32 ∷ 52 ∷ 10 ∷ 52 ∷ 32 ∷ 49 ∷ 32 ∷ 68 ∷ 32 ∷ 50 ∷ 10 ∷ 53 ∷ 32 ∷ 50 ∷ 32 ∷ 85 ∷ 32 ∷ 50 ∷ 10 ∷ 54 ∷ 32 ∷ 48 ∷ 32 ∷ 68 ∷ 32 ∷ 50 ∷ 10 ∷ []) ∷
     []
@@ -117,7 +111,7 @@ pub worked : agree table ≡ true
 unfolding decimalIn decimal line topLine pairLine pairLines refusalLine answers sheetOf offset listLength due entry size firstFaulty firstFaultyList checkLists firstMisfiled checkBook
     mirror holder holding least settle onward beaten outranks proposer-optimal receiver-optimal isStable unheld reaching places partners down up moved weight answerOf nearer cost robustness
     eliminate pairOf passed preferred willing nextPlace follow followers lowest rotationAt rotationsFrom rotations after vectorOf required precedes closed returns period backAfter
-    market blocks bestBlocking lowestBlocking checkNames checkStable checkMatching manOptimal womanOptimal
+    market blocks bestBlocking lowestBlocking checkNames checkStable checkMatching manOptimal womanOptimal badMarks checkSet setMatching
 worked = refl
 
 -- so in row i
