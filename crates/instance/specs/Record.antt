@@ -31,6 +31,19 @@ pub record SideTables (b : List ℕ) (n from : ℕ) (lengths lists ranks : List 
   pub lists-done : Rows n (entry b) from n lists
   pub ranks-done : Rows n (place b) from n ranks
 
+-- The record of n men and n women with these tables, as functions speak of it that are lent the tables
+abbrev pub recordOf : ℕ → (mlens mlists mranks wlens wlists wranks : List ℕ) → Instance
+recordOf n mlens mlists mranks wlens wlists wranks =
+    record {
+      n = n;
+      «man_lengths» = mlens;
+      «man_lists» = mlists;
+      «man_ranks» = mranks;
+      «woman_lengths» = wlens;
+      «woman_lists» = wlists;
+      «woman_ranks» = wranks;
+    }
+
 -- A number where nothing is refused, and 0 otherwise
 abbrev pub numberIf : Verdict → ℕ → ℕ
 numberIf fine n = n

@@ -42,15 +42,19 @@ pub record BestSides (I : Market) (n : ℕ) (s : Sides) : Type 0 where
   pub proposers-long : length (s .proposers) ≡ largest
   pub receivers-long : length (s .receivers) ≡ largest
 
--- Both sides of the stable vector p of a record's market, and zeros past its n persons
-pub record PlacesOf (r : Instance) (p : ℕ → ℕ) (s : Places) : Type 0 where
-  pub same : Same (marketIn r) (vec (s .men)) p
-  pub stable : Stable (marketIn r) (vec (s .men))
-  pub mirror : Mirror (marketIn r) (vec (s .men)) (vec (s .women))
-  pub men-past : (i : ℕ) → r .n ≤ i → vec (s .men) i ≡ 0
-  pub women-past : (w : ℕ) → r .n ≤ w → vec (s .women) w ≡ 0
+-- Both sides of the stable vector p of a market of n men and n women, and zeros past them
+pub record PlacesIn (n : ℕ) (I : Market) (p : ℕ → ℕ) (s : Places) : Type 0 where
+  pub same : Same I (vec (s .men)) p
+  pub stable : Stable I (vec (s .men))
+  pub mirror : Mirror I (vec (s .men)) (vec (s .women))
+  pub men-past : (i : ℕ) → n ≤ i → vec (s .men) i ≡ 0
+  pub women-past : (w : ℕ) → n ≤ w → vec (s .women) w ≡ 0
   pub men-long : length (s .men) ≡ largest
   pub women-long : length (s .women) ≡ largest
+
+-- and of a record's
+abbrev pub PlacesOf : Instance → (ℕ → ℕ) → Places → Type 0
+PlacesOf r p s = PlacesIn (r .n) (marketIn r) p s
 
 -- the kernel's answer from zeros is the extreme, and its test whether that is stable passes
 module _ {I : Market} (M : Proper I) {q p t : ℕ → ℕ} {answer : Bool} (z : Same I q (λ i. 0)) (S : Settles I q p t answer) where
@@ -96,12 +100,12 @@ module _ {n : ℕ} {plens plists rlens rlists ranks : List ℕ} (T : Tables n n 
 
 -- the women proposing, the places are those of the other extreme
 pub women-best :
-    {r : Instance} {s : Sides} → Usable r → BestSides (exchange (marketIn r)) (r .n) s →
-    PlacesOf r (receiver-optimal (marketIn r)) (record { men = s .receivers; women = s .proposers })
-women-best {r} {s} U B =
+    {n : ℕ} {I : Market} {s : Sides} → Proper (exchange I) → BestSides (exchange I) n s →
+    PlacesIn n I (receiver-optimal I) (record { men = s .receivers; women = s .proposers })
+women-best {n} {I} {s} M B =
     record {
-      same = receiver-optimal-is (U .men .proper) (B .best) (mirror-back (B .mirror));
-      stable = stable-across (U .women .proper) (B .mirror) (B .stable);
+      same = receiver-optimal-is (exchanged M) (B .best) (mirror-back (B .mirror));
+      stable = stable-across M (B .mirror) (B .stable);
       mirror = mirror-back (B .mirror);
       men-past = B .receivers-past;
       women-past = B .proposers-past;

@@ -8,7 +8,7 @@ use Rattle.instance.specs.declared.Checked.{Checked}
 use Rattle.instance.specs.declared.record.Loaded.{Loaded}
 use Rattle.instance.specs.Verdict.{verdictOf}
 use Rattle.instance.specs.Format.{largest, people}
-use Rattle.instance.specs.Record.{Recorded, numberIf}
+use Rattle.instance.specs.Record.{recordOf, Recorded, numberIf}
 use Rattle.stable_theory.specs.Stable.Holder.{mirror}
 use Rattle.matching.specs.declared.Judged.{Judged}
 use Rattle.matching.specs.BookMarket.{market}
@@ -25,6 +25,10 @@ pub record JudgedIs (b m : List ℕ) (r : Judged) : Type 0 where
   pub checked : verdictOf (r .checked) ≡ checkMatching b m
   pub men : Entries (numberIf (checkMatching b m) (people b)) (vectorOf b m) (r .places .men)
   pub women : Entries (numberIf (checkMatching b m) (people b)) (mirror (market b) (vectorOf b m)) (r .places .women)
+
+-- What is made of a book, from the answer of its check and the lent tables of its record
+abbrev pub loadedOf : Checked → ℕ → (mlens mlists mranks wlens wlists wranks : List ℕ) → Loaded
+loadedOf answer n mlens mlists mranks wlens wlists wranks = record { checked = answer; instance = recordOf n mlens mlists mranks wlens wlists wranks }
 
 -- What is made of some book
 pub record FromBook (L : Loaded) : Type 0 where

@@ -2,7 +2,6 @@
 use crate::Places;
 use instance::Checked;
 use instance::Instance;
-use instance::Loaded;
 use instance::refuse;
 ghost use mathlib.Core.Path.{_≡_};
 ghost use mathlib.Core.List.{_++_};
@@ -12,14 +11,15 @@ ghost use lib.ListN.{length, drop};
 ghost use Rattle.laws.specs.Table.{cell};
 ghost use Rattle.laws.specs.Values.{vec, values};
 ghost use Rattle.instance.specs.Format.{largest, people};
+ghost use Rattle.instance.specs.Record.{recordOf};
 ghost use Rattle.instance.specs.Verdict.{fine, rule, andThen, verdictOf};
 ghost use Rattle.stable_theory.specs.Least.Optimal.{proposer-optimal, receiver-optimal};
 ghost use Rattle.deferred.specs.Lists.{Tables, marketOf};
 ghost use Rattle.matching.specs.BookMarket.{market};
-ghost use Rattle.matching.specs.Usable.{Usable, marketIn};
+ghost use Rattle.matching.specs.Usable.{Usable};
 ghost use Rattle.matching.specs.Extreme.{manOptimal, womanOptimal, matchingOf, checkRoom, filled};
 ghost use Rattle.matching.specs.ExtremeBytes.{Writable};
-ghost use Rattle.matching.specs.ExtremePlaces.{extremeOf, BestSides, PlacesOf};
+ghost use Rattle.matching.specs.ExtremePlaces.{extremeOf, BestSides, PlacesIn};
 
 // The side that proposes, and so is best off.
 enum Proposers {
@@ -63,7 +63,16 @@ fn extreme(proposers: Proposers, book: &[u8], out: &mut [u8]) -> Checked
     let Checked::Fine = checked else {
         return checked;
     };
-    let places = extreme_places(proposers, loaded);
+    let places = extreme_places(
+        proposers,
+        n,
+        &loaded.instance.man_lengths,
+        &loaded.instance.man_lists,
+        &loaded.instance.man_ranks,
+        &loaded.instance.woman_lengths,
+        &loaded.instance.woman_lists,
+        &loaded.instance.woman_ranks,
+    );
     write_matching(n, &loaded.instance.man_lists, &places.men, out);
     checked
 }
@@ -96,47 +105,58 @@ pub fn write_matching(n: usize, lists: &[u16], places: &[u16], out: &mut [u8])
 }
 
 // The extreme matching that is best for the side that proposes, as places.
-fn extreme_places(proposers: Proposers, loaded: Loaded) -> Places
-    requires { ⌜ Usable (loaded .instance) ⌝ }
-    ensures { λ r. ⌜ PlacesOf (loaded .instance) (extremeOf proposers (marketIn (loaded .instance))) r ⌝ }
+fn extreme_places<'a>(
+    proposers: Proposers,
+    n: usize,
+    mlens: &'a [u16],
+    mlists: &'a [u16],
+    mranks: &'a [u16],
+    wlens: &'a [u16],
+    wlists: &'a [u16],
+    wranks: &'a [u16],
+) -> Places
+    requires { ⌜ Usable (recordOf n (now mlens) (now mlists) (now mranks) (now wlens) (now wlists) (now wranks)) ⌝ }
+    ensures { λ r. ⌜ PlacesIn n (marketOf n n (now (mlens .entry)) (now (mlists .entry)) (now (wlens .entry)) (now (wlists .entry))) (extremeOf proposers (marketOf n n (now (mlens .entry)) (now (mlists .entry)) (now (wlens .entry)) (now (wlists .entry)))) r ⌝ }
 {
     match proposers {
-        Proposers::Men => man_optimal_places(loaded),
-        Proposers::Women => woman_optimal_places(loaded),
+        Proposers::Men => man_optimal_places(n, mlens, mlists, wlens, wlists, wranks),
+        Proposers::Women => woman_optimal_places(n, mlens, mlists, mranks, wlens, wlists),
     }
 }
 
 // The student-best matching as places.
-pub fn man_optimal_places(loaded: Loaded) -> Places
-    requires { ⌜ Usable (loaded .instance) ⌝ }
-    ensures { λ r. ⌜ PlacesOf (loaded .instance) (proposer-optimal (marketIn (loaded .instance))) r ⌝ }
+pub fn man_optimal_places<'a>(
+    n: usize,
+    mlens: &'a [u16],
+    mlists: &'a [u16],
+    wlens: &'a [u16],
+    wlists: &'a [u16],
+    wranks: &'a [u16],
+) -> Places
+    requires { ⌜ Tables n n (now mlens) (now mlists) (now wlens) (now wlists) (now wranks) ⌝ }
+    requires { ⌜ n ≤ largest ⌝ }
+    ensures { λ r. ⌜ PlacesIn n (marketOf n n (now (mlens .entry)) (now (mlists .entry)) (now (wlens .entry)) (now (wlists .entry))) (proposer-optimal (marketOf n n (now (mlens .entry)) (now (mlists .entry)) (now (wlens .entry)) (now (wlists .entry)))) r ⌝ }
 {
-    let sides = proposer_optimal(
-        loaded.instance.n,
-        &loaded.instance.man_lengths,
-        &loaded.instance.man_lists,
-        &loaded.instance.woman_lengths,
-        &loaded.instance.woman_lists,
-        &loaded.instance.woman_ranks,
-    );
+    let sides = proposer_optimal(n, mlens, mlists, wlens, wlists, wranks);
     let men = sides.proposers;
     let women = sides.receivers;
     Places { men, women }
 }
 
 // The mentor-best matching as places.
-pub fn woman_optimal_places(loaded: Loaded) -> Places
-    requires { ⌜ Usable (loaded .instance) ⌝ }
-    ensures { λ r. ⌜ PlacesOf (loaded .instance) (receiver-optimal (marketIn (loaded .instance))) r ⌝ }
+pub fn woman_optimal_places<'a>(
+    n: usize,
+    mlens: &'a [u16],
+    mlists: &'a [u16],
+    mranks: &'a [u16],
+    wlens: &'a [u16],
+    wlists: &'a [u16],
+) -> Places
+    requires { ⌜ Tables n n (now wlens) (now wlists) (now mlens) (now mlists) (now mranks) ⌝ }
+    requires { ⌜ n ≤ largest ⌝ }
+    ensures { λ r. ⌜ PlacesIn n (marketOf n n (now (mlens .entry)) (now (mlists .entry)) (now (wlens .entry)) (now (wlists .entry))) (receiver-optimal (marketOf n n (now (mlens .entry)) (now (mlists .entry)) (now (wlens .entry)) (now (wlists .entry)))) r ⌝ }
 {
-    let sides = proposer_optimal(
-        loaded.instance.n,
-        &loaded.instance.woman_lengths,
-        &loaded.instance.woman_lists,
-        &loaded.instance.man_lengths,
-        &loaded.instance.man_lists,
-        &loaded.instance.man_ranks,
-    );
+    let sides = proposer_optimal(n, wlens, wlists, mlens, mlists, mranks);
     let men = sides.receivers;
     let women = sides.proposers;
     Places { men, women }

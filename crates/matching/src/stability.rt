@@ -5,7 +5,6 @@ use crate::Places;
 use deferred::entry;
 use instance::Checked;
 use instance::Instance;
-use instance::Loaded;
 use instance::Refusal;
 use instance::first_faulty;
 use instance::refuse;
@@ -17,44 +16,52 @@ ghost use Rattle.instance.specs.Verdict.{verdictOf};
 ghost use Rattle.instance.specs.Format.{largest};
 ghost use Rattle.matching.specs.Matching.{checkNames, checkMatching};
 ghost use Rattle.matching.specs.Blocking.{willing, lowestWilling, checkTables, Searchable, OnLists, PlacesFillable, PlacesFilled};
-ghost use Rattle.matching.specs.Judge.{FromBook, Judges, Unplaced};
+ghost use Rattle.matching.specs.Judge.{loadedOf, FromBook, Judges, Unplaced};
 
 // Says whether a matching of a book is stable, or the first rule that is broken and where.
 pub fn check(book: &[u8], matching: &[u8]) -> Checked
     ensures { λ r. ⌜ verdictOf r ≡ checkMatching (now (book .entry)) (now (matching .entry)) ⌝ }
 {
     let loaded = Instance::load(book);
-    let judged = judge(loaded, matching);
+    let answer = loaded.checked;
+    let judged = judge(
+        answer,
+        loaded.instance.n,
+        &loaded.instance.man_lengths,
+        &loaded.instance.man_lists,
+        &loaded.instance.man_ranks,
+        &loaded.instance.woman_lengths,
+        &loaded.instance.woman_lists,
+        &loaded.instance.woman_ranks,
+        matching,
+    );
     judged.checked
 }
 
 // The same answer from what is made of the book, with the places of the matching. It says so for each book of which that is made.
-pub fn judge(loaded: Loaded, matching: &[u8]) -> Judged
-    requires { ⌜ FromBook loaded ⌝ }
-    ensures { λ r. ⌜ Judges loaded (now (matching .entry)) r ⌝ }
+pub fn judge<'a>(
+    answer: Checked,
+    n: usize,
+    mlens: &'a [u16],
+    mlists: &'a [u16],
+    mranks: &'a [u16],
+    wlens: &'a [u16],
+    wlists: &'a [u16],
+    wranks: &'a [u16],
+    matching: &[u8],
+) -> Judged
+    requires { ⌜ FromBook (loadedOf answer n (now mlens) (now mlists) (now mranks) (now wlens) (now wlists) (now wranks)) ⌝ }
+    ensures { λ r. ⌜ Judges (loadedOf answer n (now (mlens .entry)) (now (mlists .entry)) (now (mranks .entry)) (now (wlens .entry)) (now (wlists .entry)) (now (wranks .entry))) (now (matching .entry)) r ⌝ }
 {
-    let answer = loaded.checked;
     let Checked::Fine = answer else {
         return unplaced(answer);
     };
-    let n = loaded.instance.n;
     let listed = check_names(n, matching);
     let Checked::Fine = listed else {
         return unplaced(listed);
     };
-    let places = places_of(
-        n,
-        matching,
-        &loaded.instance.man_ranks,
-        &loaded.instance.woman_ranks,
-    );
-    let checked = check_stable(
-        n,
-        &loaded.instance.man_lists,
-        &loaded.instance.woman_ranks,
-        &places.men,
-        &places.women,
-    );
+    let places = places_of(n, matching, mranks, wranks);
+    let checked = check_stable(n, mlists, wranks, &places.men, &places.women);
     let Checked::Fine = checked else {
         return unplaced(checked);
     };

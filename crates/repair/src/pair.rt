@@ -7,10 +7,9 @@ use crate::gains::write_gains;
 use crate::vectors::nearest;
 use instance::Checked;
 use instance::Instance;
-use instance::Loaded;
 use instance::refuse;
 use instance::wide;
-use matching::Judged;
+use matching::Places;
 use matching::judge;
 use matching::write_matching;
 ghost use mathlib.Core.Path.{_≡_};
@@ -20,10 +19,11 @@ ghost use lib.ListN.{length, drop};
 ghost use Rattle.laws.specs.Difference.{less};
 ghost use Rattle.laws.specs.Table.{cell};
 ghost use Rattle.laws.specs.Values.{vec, values};
+ghost use Rattle.instance.specs.Record.{recordOf};
 ghost use Rattle.instance.specs.Verdict.{verdictOf};
 ghost use Rattle.stable_theory.specs.Repairs.Answer.{answerOf};
 ghost use Rattle.matching.specs.ExtremeBytes.{Writable};
-ghost use Rattle.matching.specs.Kernel.{tableMarket};
+ghost use Rattle.deferred.specs.Lists.{marketOf};
 ghost use Rattle.repair.specs.Shown.{Small, shownReply, shownIf};
 ghost use Rattle.repair.specs.Nearest.{GivenIn, Shows};
 ghost use Rattle.repair.specs.Repair.{fixed, replyOf, replyIf, repairReply, repairMatching, repairGains};
@@ -43,12 +43,23 @@ pub fn repair(
     ensures places { λ _. ⌜ now (gains .exit) ≡ repairGains (now (book .entry)) (now (matching .entry)) (now (request .entry)) (now (out .entry)) (now (gains .entry)) ⌝ }
 {
     let loaded = Instance::load(book);
-    let judged = judge(loaded, matching);
+    let read = loaded.checked;
+    let n = loaded.instance.n;
+    let judged = judge(
+        read,
+        n,
+        &loaded.instance.man_lengths,
+        &loaded.instance.man_lists,
+        &loaded.instance.man_ranks,
+        &loaded.instance.woman_lengths,
+        &loaded.instance.woman_lists,
+        &loaded.instance.woman_ranks,
+        matching,
+    );
     let checked = judged.checked;
     let Checked::Fine = checked else {
         return refused(checked);
     };
-    let n = loaded.instance.n;
     let room = out.len();
     let gains_room = gains.len();
     let asked = check_pair(n, matching, request, room, gains_room);
@@ -56,8 +67,19 @@ pub fn repair(
         return refused(asked);
     };
     let s = wide(request[0]);
-    let found = nearest_in(loaded, judged, s);
-    let men = judged.places.men;
+    let places = judged.places;
+    let found = nearest_in(
+        n,
+        &loaded.instance.man_lengths,
+        &loaded.instance.man_lists,
+        &loaded.instance.man_ranks,
+        &loaded.instance.woman_lengths,
+        &loaded.instance.woman_lists,
+        &loaded.instance.woman_ranks,
+        places,
+        s,
+    );
+    let men = places.men;
     answer(n, &loaded.instance.man_lists, men, found, out, gains)
 }
 
@@ -99,23 +121,33 @@ fn check_pair(n: usize, matching: &[u8], request: &[u8], room: usize, gains_room
     Checked::Fine
 }
 
-// The nearest repair of the pair of man s of a stable matching.
-fn nearest_in(loaded: Loaded, judged: Judged, s: usize) -> Nearest
-    requires { ⌜ GivenIn (loaded .instance) (judged .places) ⌝ }
-    requires { ⌜ s < loaded .instance .n ⌝ }
-    ensures { λ r. ⌜ Shows (tableMarket (loaded .instance .n) (loaded .instance)) (vec (judged .places .men)) (answerOf (tableMarket (loaded .instance .n) (loaded .instance)) (λ i. 1) (vec (judged .places .men)) s) r ⌝ }
+// The nearest repair of the pair of man s of a stable matching; both repairs are tried.
+fn nearest_in<'a>(
+    n: usize,
+    mlens: &'a [u16],
+    mlists: &'a [u16],
+    mranks: &'a [u16],
+    wlens: &'a [u16],
+    wlists: &'a [u16],
+    wranks: &'a [u16],
+    places: Places,
+    s: usize,
+) -> Nearest
+    requires { ⌜ GivenIn (recordOf n (now mlens) (now mlists) (now mranks) (now wlens) (now wlists) (now wranks)) places ⌝ }
+    requires { ⌜ s < n ⌝ }
+    ensures { λ r. ⌜ Shows (marketOf n n (now (mlens .entry)) (now (mlists .entry)) (now (wlens .entry)) (now (wlists .entry))) (vec (places .men)) (answerOf (marketOf n n (now (mlens .entry)) (now (mlists .entry)) (now (wlens .entry)) (now (wlists .entry))) (λ i. 1) (vec (places .men)) s) r ⌝ }
 {
-    let men = judged.places.men;
-    let women = judged.places.women;
+    let men = places.men;
+    let women = places.women;
     let none = [65535u16; Instance::LARGEST];
     nearest(
-        loaded.instance.n,
-        &loaded.instance.man_lengths,
-        &loaded.instance.man_lists,
-        &loaded.instance.man_ranks,
-        &loaded.instance.woman_lengths,
-        &loaded.instance.woman_lists,
-        &loaded.instance.woman_ranks,
+        n,
+        mlens,
+        mlists,
+        mranks,
+        wlens,
+        wlists,
+        wranks,
         men,
         women,
         none,

@@ -3,6 +3,7 @@ use crate::Graded;
 use crate::vectors::nearest;
 use instance::Checked;
 use instance::Instance;
+use matching::Places;
 use matching::judge;
 use matching::man_optimal_places;
 use matching::woman_optimal_places;
@@ -11,9 +12,11 @@ ghost use Prim.Native.Nat.{_-_};
 ghost use Rattle.laws.specs.Largest.{largest};
 ghost use Rattle.laws.specs.Values.{vec};
 ghost use Rattle.deferred.specs.Lists.{marketOf};
+ghost use Rattle.instance.specs.Record.{recordOf};
 ghost use Rattle.instance.specs.Verdict.{verdictOf};
+ghost use Rattle.matching.specs.Usable.{Usable};
 ghost use Rattle.repair.specs.Grade.{grade, replyOf, replyIf, gradeReply};
-ghost use Rattle.repair.specs.Nearest.{GivenEnds, costs};
+ghost use Rattle.repair.specs.Nearest.{GivenIn, costs};
 
 // The grade of a matching of a book: the largest distance of an answer, less 1, over the pairs that are not fixed; or the first rule that
 // is broken and where.
@@ -21,29 +24,32 @@ pub fn grade(book: &[u8], matching: &[u8]) -> Graded
     ensures { λ r. ⌜ replyOf r ≡ gradeReply (now (book .entry)) (now (matching .entry)) ⌝ }
 {
     let loaded = Instance::load(book);
-    let judged = judge(loaded, matching);
-    let checked = judged.checked;
-    let Checked::Fine = checked else {
-        return ungraded(checked);
-    };
-    let men = judged.places.men;
-    let women = judged.places.women;
-    let worst = woman_optimal_places(loaded);
-    let best = man_optimal_places(loaded);
-    let man_ends = worst.men;
-    let woman_ends = best.women;
-    Graded::Grade(robustness(
-        loaded.instance.n,
+    let read = loaded.checked;
+    let n = loaded.instance.n;
+    let judged = judge(
+        read,
+        n,
         &loaded.instance.man_lengths,
         &loaded.instance.man_lists,
         &loaded.instance.man_ranks,
         &loaded.instance.woman_lengths,
         &loaded.instance.woman_lists,
         &loaded.instance.woman_ranks,
-        men,
-        women,
-        man_ends,
-        woman_ends,
+        matching,
+    );
+    let checked = judged.checked;
+    let Checked::Fine = checked else {
+        return ungraded(checked);
+    };
+    Graded::Grade(robustness(
+        n,
+        &loaded.instance.man_lengths,
+        &loaded.instance.man_lists,
+        &loaded.instance.man_ranks,
+        &loaded.instance.woman_lengths,
+        &loaded.instance.woman_lists,
+        &loaded.instance.woman_ranks,
+        judged.places,
     ))
 }
 
@@ -67,7 +73,8 @@ fn less_one(x: usize) -> usize
     x - 1
 }
 
-// The largest distance of an answer, less 1, over the pairs of n men.
+// The largest distance of an answer, less 1, over the pairs of n men of a stable matching. Nobody is tried past his place in the extreme
+// matching of the other side.
 fn robustness<'a>(
     n: usize,
     mlens: &'a [u16],
@@ -76,14 +83,18 @@ fn robustness<'a>(
     wlens: &'a [u16],
     wlists: &'a [u16],
     wranks: &'a [u16],
-    men: [u16; Instance::LARGEST],
-    women: [u16; Instance::LARGEST],
-    man_ends: [u16; Instance::LARGEST],
-    woman_ends: [u16; Instance::LARGEST],
+    places: Places,
 ) -> usize
-    requires { ⌜ GivenEnds n (now mlens) (now mlists) (now mranks) (now wlens) (now wlists) (now wranks) men women «man_ends» «woman_ends» ⌝ }
-    ensures { λ r. ⌜ r ≡ largest n (costs (marketOf n n (now (mlens .entry)) (now (mlists .entry)) (now (wlens .entry)) (now (wlists .entry))) (vec men)) ⌝ }
+    requires { ⌜ Usable (recordOf n (now mlens) (now mlists) (now mranks) (now wlens) (now wlists) (now wranks)) ⌝ }
+    requires { ⌜ GivenIn (recordOf n (now mlens) (now mlists) (now mranks) (now wlens) (now wlists) (now wranks)) places ⌝ }
+    ensures { λ r. ⌜ r ≡ largest n (costs (marketOf n n (now (mlens .entry)) (now (mlists .entry)) (now (wlens .entry)) (now (wlists .entry))) (vec (places .men))) ⌝ }
 {
+    let men = places.men;
+    let women = places.women;
+    let worst = woman_optimal_places(n, mlens, mlists, mranks, wlens, wlists);
+    let best = man_optimal_places(n, mlens, mlists, wlens, wlists, wranks);
+    let man_ends = worst.men;
+    let woman_ends = best.women;
     let mut most = 0;
     let mut s = 0;
     while s < n {

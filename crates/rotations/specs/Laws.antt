@@ -1,5 +1,4 @@
 -- What the contracts inside the crate and the proofs cite: from the numbers of the code to the bytes of the definitions. Assumes nothing.
-pub mod RecordOf
 pub mod Pointers
 pub mod NextCode
 pub mod CycleCode

@@ -18,7 +18,7 @@ ghost use Rattle.stable_theory.specs.Stable.Vector.{Within};
 ghost use Rattle.deferred.specs.Lists.{Tables, marketOf};
 ghost use Rattle.matching.specs.Usable.{Usable, marketIn};
 ghost use Rattle.rotations.specs.Sets.{member};
-ghost use Rattle.rotations.specs.Laws.RecordOf.{recordOf};
+ghost use Rattle.instance.specs.Record.{recordOf};
 ghost use Rattle.rotations.specs.Laws.Written.{rotationIn};
 ghost use Rattle.rotations.specs.Laws.ListRead.{startIn, pastIn, Readable};
 ghost use Rattle.rotations.specs.Laws.EliminateCode.{Eliminable};

@@ -46,7 +46,7 @@ pub fn list(book: &[u8], out: &mut [u8]) -> Listed
         &loaded.instance.woman_lists,
         &loaded.instance.woman_ranks,
         places,
-        &mut numbers,
+        &mut numbers[..],
     );
     let end = extent.end;
     if out.len() < end {
@@ -83,7 +83,7 @@ pub fn count(loaded: Loaded) -> usize
         &loaded.instance.woman_lists,
         &loaded.instance.woman_ranks,
         places,
-        &mut numbers,
+        &mut numbers[..],
     );
     extent.count
 }

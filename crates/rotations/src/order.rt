@@ -17,7 +17,7 @@ ghost use Rattle.instance.specs.Verdict.{verdictOf};
 ghost use Rattle.stable_theory.specs.Stable.Holding.{Same};
 ghost use Rattle.deferred.specs.Lists.{Tables, marketOf};
 ghost use Rattle.matching.specs.Usable.{Usable, marketIn};
-ghost use Rattle.rotations.specs.Laws.RecordOf.{recordOf};
+ghost use Rattle.instance.specs.Record.{recordOf};
 ghost use Rattle.rotations.specs.Laws.Written.{Turnable, rotationIn};
 ghost use Rattle.rotations.specs.Laws.ListRead.{startIn, numberIn, pastIn, Readable};
 ghost use Rattle.rotations.specs.Laws.Required.{RequiredBy, FromZeros, requiredPlaces};
@@ -52,7 +52,7 @@ pub fn precedes(book: &[u8], first: usize, second: usize) -> Precedence
         &loaded.instance.woman_lists,
         &loaded.instance.woman_ranks,
         places,
-        &mut list,
+        &mut list[..],
     );
     let count = extent.count;
     if count <= first {

@@ -14,10 +14,9 @@ ghost use Rattle.deferred.specs.Lists.{Tables, Sized, marketOf};
 ghost use Rattle.matching.specs.Usable.{Usable, marketIn};
 ghost use Rattle.matching.specs.ExtremePlaces.{PlacesOf};
 ghost use Rattle.rotations.specs.Laws.Pointers.{State};
-ghost use Rattle.rotations.specs.Laws.RecordOf.{recordOf};
-ghost use Rattle.rotations.specs.Laws.WriteCode.{listRoom};
+ghost use Rattle.instance.specs.Record.{recordOf};
 ghost use Rattle.rotations.specs.Laws.RunCode.{Room, Turned, Numbered};
-ghost use Rattle.rotations.specs.Laws.Numbers.{NumberingOf};
+ghost use Rattle.rotations.specs.Laws.Numbers.{listRoom, NumberingOf};
 
 // How many rotations there are, and where their list ends.
 pub(crate) struct Extent {
@@ -39,13 +38,13 @@ fn next_rotation<'a>(
     t: &mut [u16],
     next: &mut [u16],
     marks: &mut [u16],
-    list: &mut [u16; ROOM],
+    list: &mut [u16],
     at: usize,
 ) -> usize
     requires { ⌜ Tables a b (now plens) (now plists) (now rlens) (now rlists) (now rranks) ⌝ }
     requires { ⌜ Tables b a (now rlens) (now rlists) (now plens) (now plists) (now pranks) ⌝ }
     requires { ⌜ Sized a b (now p) (now t) ⌝ }
-    requires { ⌜ (length (now next) ≡ a) × (length (now marks) ≡ a) × (a < 65536) × (length (now list) ≡ listRoom) ⌝ }
+    requires { ⌜ (length (now next) ≡ a) × (length (now marks) ≡ a) × (a < 65536) ⌝ }
     requires { ⌜ State (marketOf a b (now plens) (now plists) (now rlens) (now rlists)) (vec (now p)) (vec (now t)) (vec (now next)) ⌝ }
     requires { ⌜ Room a b (vec (now p)) at (now list) ⌝ }
     ensures { λ r. ⌜ Turned (marketOf a b (now (plens .entry)) (now (plists .entry)) (now (rlens .entry)) (now (rlists .entry))) (vec (now (p .entry))) (now (list .entry)) at (vec (now (p .exit))) (vec (now (t .exit))) (vec (now (next .exit))) (now (list .exit)) r ⌝ }
@@ -99,16 +98,16 @@ pub(crate) fn fill<'a>(
     t: &mut [u16],
     next: &mut [u16],
     marks: &mut [u16],
-    list: &mut [u16; ROOM],
+    list: &mut [u16],
 ) -> Extent
     requires { ⌜ Tables a b (now plens) (now plists) (now rlens) (now rlists) (now rranks) ⌝ }
     requires { ⌜ Tables b a (now rlens) (now rlists) (now plens) (now plists) (now pranks) ⌝ }
     requires { ⌜ Sized a b (now p) (now t) ⌝ }
-    requires { ⌜ (length (now next) ≡ a) × (length (now marks) ≡ a) × (a < 65536) × (length (now list) ≡ listRoom) ⌝ }
+    requires { ⌜ (length (now next) ≡ a) × (length (now marks) ≡ a) × (a < 65536) ⌝ }
     requires { ⌜ State (marketOf a b (now plens) (now plists) (now rlens) (now rlists)) (vec (now p)) (vec (now t)) (vec (now next)) ⌝ }
     requires { ⌜ Same (marketOf a b (now plens) (now plists) (now rlens) (now rlists)) (vec (now p)) (proposer-optimal (marketOf a b (now plens) (now plists) (now rlens) (now rlists))) ⌝ }
     requires { ⌜ 5 * (a * b) ≤ 2 * length (now list) ⌝ }
-    ensures { λ r. ⌜ Numbered (marketOf a b (now (plens .entry)) (now (plists .entry)) (now (rlens .entry)) (now (rlists .entry))) (now (list .exit)) (r .count) (r .end) × (length (now (list .exit)) ≡ listRoom) ⌝ }
+    ensures { λ r. ⌜ Numbered (marketOf a b (now (plens .entry)) (now (plists .entry)) (now (rlens .entry)) (now (rlists .entry))) (now (list .exit)) (r .count) (r .end) ⌝ }
 {
     let mut count: usize = 0;
     let mut at: usize = 0;
@@ -150,7 +149,7 @@ pub(crate) fn number_all<'a>(
     wlists: &'a [u16],
     wranks: &'a [u16],
     places: Places,
-    list: &mut [u16; ROOM],
+    list: &mut [u16],
 ) -> Extent
     requires { ⌜ Usable (recordOf n (now mlens) (now mlists) (now mranks) (now wlens) (now wlists) (now wranks)) ⌝ }
     requires { ⌜ PlacesOf (recordOf n (now mlens) (now mlists) (now mranks) (now wlens) (now wlists) (now wranks)) (proposer-optimal (marketIn (recordOf n (now mlens) (now mlists) (now mranks) (now wlens) (now wlists) (now wranks)))) places ⌝ }

@@ -50,7 +50,7 @@ pub fn set_to_matching(book: &[u8], set: &[u8], out: &mut [u8]) -> Checked
         &loaded.instance.woman_lists,
         &loaded.instance.woman_ranks,
         places,
-        &mut list,
+        &mut list[..],
     );
     let count = extent.count;
     if bad_marks(set, count) {
@@ -132,7 +132,7 @@ pub fn matching_to_set(book: &[u8], matching: &[u8], out: &mut [u8]) -> Listed
         &loaded.instance.woman_lists,
         &loaded.instance.woman_ranks,
         places,
-        &mut list,
+        &mut list[..],
     );
     let count = extent.count;
     if out.len() < count {

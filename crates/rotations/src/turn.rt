@@ -1,7 +1,6 @@
 // One rotation written into a list of numbers, and its elimination: its number of pairs stands at index `at`, then man and woman of each
 // pair, from its lowest man on.
 use crate::next::follower;
-use crate::run::ROOM;
 use deferred::entry;
 use deferred::wide;
 ghost use mathlib.Core.Path.{_≡_};
@@ -13,7 +12,7 @@ ghost use Rattle.deferred.specs.Lists.{Tables, Sized, marketOf};
 ghost use Rattle.rotations.specs.Laws.Pointers.{State};
 ghost use Rattle.rotations.specs.Laws.Written.{around, rotationIn};
 ghost use Rattle.rotations.specs.Laws.EliminateCode.{Eliminable, Eliminating};
-ghost use Rattle.rotations.specs.Laws.WriteCode.{listRoom, WroteCycle};
+ghost use Rattle.rotations.specs.Laws.WriteCode.{WroteCycle};
 
 // Number k of a cycle of c pairs, in which number c is number 0 again.
 fn round(c: usize, k: usize) -> usize
@@ -59,13 +58,13 @@ pub(crate) fn write_cycle(
     p: &[u16],
     t: &[u16],
     next: &mut [u16],
-    list: &mut [u16; ROOM],
+    list: &mut [u16],
     at: usize,
     x: usize,
 ) -> usize
     requires { ⌜ Tables a b (now plens) (now plists) (now rlens) (now rlists) (now ranks) ⌝ }
     requires { ⌜ Sized a b (now p) (now t) ⌝ }
-    requires { ⌜ (length (now next) ≡ a) × (x < a) × (a < 65536) × (length (now list) ≡ listRoom) ⌝ }
+    requires { ⌜ (length (now next) ≡ a) × (x < a) × (a < 65536) ⌝ }
     requires { ⌜ State (marketOf a b (now plens) (now plists) (now rlens) (now rlists)) (vec (now p)) (vec (now t)) (vec (now next)) ⌝ }
     requires { ⌜ x ≡ lowest (marketOf a b (now plens) (now plists) (now rlens) (now rlists)) (vec (now p)) ⌝ }
     requires { ⌜ at + 1 + 2 * rotationAt (marketOf a b (now plens) (now plists) (now rlens) (now rlists)) (vec (now p)) x .pairs ≤ length (now list) ⌝ }

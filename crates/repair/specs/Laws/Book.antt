@@ -20,11 +20,8 @@ use Rattle.stable_theory.specs.Stable.Alike.{Alike, alike-sym, alike-exchange, 
 use Rattle.stable_theory.specs.Matchings.Perfect.{stable-full}
 use Rattle.stable_theory.specs.Repairs.Answer.{answerOf}
 use Rattle.stable_theory.specs.Repairs.AnswerAlike.{answer-alike}
-use Rattle.stable_theory.specs.Least.Optimal.{proposer-optimal, receiver-optimal}
 use Rattle.matching.specs.declared.Judged.{Judged}
-use Rattle.matching.specs.declared.Places.{Places}
-use Rattle.matching.specs.Usable.{Usable, marketIn, usable}
-use Rattle.matching.specs.ExtremePlaces.{PlacesOf}
+use Rattle.matching.specs.Usable.{Usable, usable}
 use Rattle.matching.specs.BookMarket.{market, market-proper, market-complete}
 use Rattle.matching.specs.Kernel.{tableMarket, table-alike, table-proper, kernel-men, kernel-women}
 use Rattle.matching.specs.Matching.{vectorOf, checkMatching}
@@ -35,8 +32,7 @@ use Rattle.repair.specs.declared.answer.Nearest.{Nearest}
 use Rattle.repair.specs.Repair.{answerFor}
 use Rattle.repair.specs.Grade.{gradeOf}
 use Rattle.repair.specs.Laws.Grade.{costs-alike}
-use Rattle.repair.specs.Nearest.{GivenIn, EndsIn, costs, Shows}
-use Rattle.repair.specs.Laws.Ends.{given-extremes}
+use Rattle.repair.specs.Nearest.{GivenIn, costs, Shows}
 use Rattle.repair.specs.Laws.Nearest.{shows-same, shows-alike}
 
 module _ {b m : List ℕ} {L : Loaded} {j : Judged} (J : BookJudged b m L j) (f : checkMatching b m ≡ fine) where
@@ -94,11 +90,6 @@ module _ {b m : List ℕ} {L : Loaded} {j : Judged} (J : BookJudged b m L j) (f 
   -- and the kernel
   pub judged-usable : Usable (L .instance)
   judged-usable = usable judged-formed (subst (λ (n : ℕ). Tables b n (L .instance)) judged-number tables)
-
-  -- the extreme matchings have the places after which no stable matching has anybody
-  pub extreme-ends : {worst best : Places} → PlacesOf (L .instance) (receiver-optimal (marketIn (L .instance))) worst → PlacesOf (L .instance) (proposer-optimal (marketIn (L .instance))) best →
-      EndsIn (L .instance) (j .places) (worst .men) (best .women)
-  extreme-ends W B = given-extremes judged-usable judged-given W B
 
   -- what the search says over the record is the answer for the bytes
   pub shows-book : {s : ℕ} {r : Nearest} → s < L .instance .n → Shows I (vec (j .places .men)) (answerOf I (λ i. 1) (vec (j .places .men)) s) r → Shows (market b) (vectorOf b m) (answerFor b m s) r

@@ -25,8 +25,11 @@ use Rattle.matching.specs.ExtremePlaces.{PlacesOf}
 use Rattle.rotations.specs.declared.run.Extent.{Extent}
 use Rattle.rotations.specs.Laws.Pointers.{State, advanced-start}
 use Rattle.rotations.specs.Laws.Written.{lists-same}
-use Rattle.rotations.specs.Laws.WriteCode.{listRoom}
 use Rattle.rotations.specs.Laws.RunCode.{Numbered}
+
+-- how many numbers the list has room for: two and a half for each place of the largest book
+abbrev pub listRoom : ℕ
+listRoom = 10240
 
 -- The list holds all rotations of a record's market
 pub record NumberingOf (r : Instance) (numbers : List ℕ) (s : Extent) : Type 0 where

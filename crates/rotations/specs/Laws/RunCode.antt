@@ -45,7 +45,6 @@ pub record OneTurn (I : Market) (p : ℕ → ℕ) (before : List ℕ) (at : ℕ)
   pub pairs : c ≡ lowestRotation I p .pairs
   pub written : Written l at (lowestRotation I p)
   pub kept : (v : ℕ) → v < at → vec l v ≡ vec before v
-  pub long : length l ≡ length before
   pub moved : Same I q (eliminate I (lowestRotation I p) p)
   pub state : State I q u next
 
@@ -158,7 +157,6 @@ module _ {a b : ℕ} {plens plists rlens rlists pranks rranks : List ℕ} (T : T
         pairs = rw (← e) (W .pairs);
         written = rw (← e) (W .written);
         kept = W .kept;
-        long = W .long;
         moved = rw (← e) (written-moved p t (Q .stable) X (W .written) E);
         state = written-state p t (Q .stable) X (W .written) E (Q .mirror) (W .advanced);
       })
@@ -219,14 +217,14 @@ module _ {I : Market} (M : Proper I) {b k at : ℕ} {p t next : ℕ → ℕ} {l 
     running-less = step-on M (rotations-canonical M) (R .within) (exposed-agree M (R .reached) found-exposed)
 
     -- one more is found
-    pub running-on : Running I b (k + 1) (at + (1 + 2 * c)) q u after m
-    running-on =
+    pub running-on : length m ≡ length l → Running I b (k + 1) (at + (1 + 2 * c)) q u after m
+    running-on e =
         let s : k + 1 ≡ suc k = omega arith in
         let z = found-next in
         record {
           within = omega (arith, running-less);
           reached = λ i v. rw s (O .moved i v ∙ (eliminate-same I z p i ∙ (eliminate-agree I (rotation I k) (R .reached) i v ∙ sym (prefix-on I (rotation I) (proposer-optimal I) k i))));
           state = O .state;
-          lists = lists-more m (R .lists) (O .long) (O .kept) (written-same z (O .written)) (O .pairs ∙ z .pairs);
-          room = room-after M (R .state .stable) found-exposed (R .room) (O .moved) (O .long) (O .pairs);
+          lists = lists-more m (R .lists) e (O .kept) (written-same z (O .written)) (O .pairs ∙ z .pairs);
+          room = room-after M (R .state .stable) found-exposed (R .room) (O .moved) e (O .pairs);
         }

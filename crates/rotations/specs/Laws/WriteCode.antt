@@ -21,16 +21,11 @@ use Rattle.rotations.specs.Laws.Pointers.{Advanced, State, FollowerIs}
 use Rattle.rotations.specs.Laws.CycleCode.{state-on}
 use Rattle.rotations.specs.Laws.Written.{Written}
 
--- how many numbers the list has room for: two and a half for each place of the largest book
-abbrev pub listRoom : ℕ
-listRoom = 10240
-
 -- The answer: the rotation from x on stands in the list, what stands before it is kept, and the answer is its number of pairs
 pub record WroteCycle (I : Market) (p t : ℕ → ℕ) (x : ℕ) (next : ℕ → ℕ) (before l : List ℕ) (at c : ℕ) : Type 0 where
   pub pairs : c ≡ rotationAt I p x .pairs
   pub written : Written l at (rotationAt I p x)
   pub kept : (v : ℕ) → v < at → vec l v ≡ vec before v
-  pub long : length l ≡ length before
   pub advanced : Advanced I t next
 
 -- What the loop knows: c pairs are written, c turns have led from x to i, and more are to be made
@@ -153,6 +148,5 @@ module _ {I : Market} (M : Proper I) (p : ℕ → ℕ) {x : ℕ} (u : x < I .pro
                 room = simp length-set (omega (arith, W .long));
               };
               kept = λ v g. getD-set-other m at v (c + 1) 0 (λ z. omega arith) ∙ stored-kept v g;
-              long = simp length-set (W .long);
               advanced = F .advanced;
             }

@@ -39,14 +39,14 @@ nothing c = sym (verdict (c .before .before)) ∙ ap verdictOf (c .enum-told .gi
 
 extreme-places-requires : tie.Need-extreme-places-requires
 extreme-places-requires c κs =
-    let R = c .before .before .before .load .ensures in
-    let e = nothing c in
+    let R = c .before .before .before .before .before .before .before .before .before .before .before .before .before .before .before .before .load .ensures in
+    let e = nothing (c .before .before .before .before .before .before .before .before .before .before .before .before .before) in
     usable (room-formed R _ e) (room-tables R _ e)
 
 write-matching-requires : tie.Need-write-matching-requires
 write-matching-requires c κs =
-    let R = c .before .before .before .before .before .before .before .before .before .before .before .load .ensures in
-    let e = nothing (c .before .before .before .before .before .before .before .before) in
+    let R = c .before .before .before .before .before .before .before .before .before .before .before .before .before .before .before .before .before .before .before .before .before .before .before .before .load .ensures in
+    let e = nothing (c .before .before .before .before .before .before .before .before .before .before .before .before .before .before .before .before .before .before .before .before .before) in
     let T = room-tables R _ e in
     places-writable (room-formed R _ e) T (c .before .before .before .before .before .before .before .extreme-places .ensures) (omega (arith, room-fits R _ e, T .number))
 
@@ -55,7 +55,7 @@ same-length c = search needs
 
 returns-2 : tie.Need-returns-2
 returns-2 c =
-    let d = c .before .before .before .before .before .before .before .before .before .before .before in
+    let d = c .before .before .before .before .before .before .before .before .before .before .before .before .before .before .before .before .before .before .before .before .before .before .before .before in
     let R = d .before .before .before .load .ensures in
     let e = nothing d in
     let W = room-formed R _ e in

@@ -9,7 +9,7 @@ proposer-optimal-requires c κs = search needs
 
 returns : tie.Need-returns
 returns c =
-    women-best (c .before .before .before .before .before .before .before .before .before .before .before .before .before .before .pre) (c .before .before .proposer-optimal .ensures)
+    women-best (c .before .before .before .before .before .before .before .before .pre .0 .proper) (c .before .before .proposer-optimal .ensures)
 
 pub woman-optimal-places-spec : {M : Type 1} → statement M
 woman-optimal-places-spec = tie.close (tie.spec proposer-optimal-requires returns)

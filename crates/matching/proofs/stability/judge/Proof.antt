@@ -21,7 +21,7 @@ returns : tie.Need-returns
 returns c = λ b R. judged-book _ R (ap verdictOf (c .before .enum-told2 .given .1)) (c .unplaced .ensures)
 
 -- the book's check found nothing
-book : (c : tie.After-enum-told) → verdictOf (c .before .before .before .args .t1 .checked) ≡ fine
+book : (c : tie.After-enum-told) → verdictOf (c .before .before .before .before .before .before .before .before .before .args .answer) ≡ fine
 book c = ap verdictOf (c .enum-told .given .1)
 
 check-names-requires : tie.Need-check-names-requires
@@ -41,19 +41,17 @@ returns-2 c =
     λ b R. judged-names _ R (book (c .before .before .before .before)) (c .before .before .before .check-names .ensures) (ap verdictOf (c .before .enum-told4 .given .1)) (c .unplaced2 .ensures)
 
 -- nor did rules 8 and 9
-names : (c : tie.After-enum-told3) → checkNames (c .before .before .before .before .before .before .args .t1 .instance .n) (now (c .before .before .before .before .before .before .args .matching)) ≡ fine
+names : (c : tie.After-enum-told3) → checkNames (c .before .before .before .before .before .before .before .before .before .before .before .before .args .n) (now (c .before .before .before .before .before .before .before .before .before .before .before .before .args .matching)) ≡ fine
 names c = sym (c .before .before .check-names .ensures) ∙ ap verdictOf (c .enum-told3 .given .1)
 
 places-of-requires : tie.Need-places-of-requires
-places-of-requires c κs =
-    let t = c .before .before .before .before .before in
-    judge-fillable _ (t .before .before .before .before .before .before .pre .recorded) (book (t .before .before .before)) (names t)
+places-of-requires c κs = judge-fillable _ (c .before .before .before .before .before .before .before .before .before .before .before .before .pre .recorded) (book (c .before .before .before)) (names c)
 
 check-stable-requires : tie.Need-check-stable-requires
 check-stable-requires c κs =
-    let t = c .before .before .before .before .before .before .before .before .before .before .before .before .before .before .before .before in
-    let R = t .before .before .before .before .before .before .pre .recorded in
-    let F = c .before .before .before .before .before .before .before .before .before .before .places-of .ensures in
+    let t = c .before .before .before .before .before .before in
+    let R = t .before .before .before .before .before .before .before .before .before .before .before .before .pre .recorded in
+    let F = c .before .before .before .before .before .places-of .ensures in
     (judge-searchable _ R (book (t .before .before .before)) (names t) F, judge-on-lists _ R (book (t .before .before .before)) (names t) F)
 
 enum-told-5 : tie.Need-enum-told-5
@@ -67,14 +65,14 @@ unplaced-requires-3 c κs = search needs
 
 returns-3 : tie.Need-returns-3
 returns-3 c =
-    let t = c .before .before .before .before .before .before .before .before .before .before .before .before .before .before .before .before .before .before .before .before in
-    λ b R. judged-unstable _ R (book (t .before .before .before)) (names t) (c .before .before .before .before .before .before .before .before .before .before .before .before .before .before .places-of .ensures) _ (c .before .before .before .check-stable .ensures)
+    let t = c .before .before .before .before .before .before .before .before .before .before in
+    λ b R. judged-unstable _ R (book (t .before .before .before)) (names t) (c .before .before .before .before .before .before .before .before .before .places-of .ensures) _ (c .before .before .before .check-stable .ensures)
     (ap verdictOf (c .before .enum-told6 .given .1)) (c .unplaced3 .ensures)
 
 returns-4 : tie.Need-returns-4
 returns-4 c =
-    let t = c .before .before .before .before .before .before .before .before .before .before .before .before .before .before .before .before .before .before .before in
-    λ b R. judged-stable _ R (book (t .before .before .before)) (names t) (c .before .before .before .before .before .before .before .before .before .before .before .before .before .places-of .ensures) _ (c .before .before .check-stable .ensures)
+    let t = c .before .before .before .before .before .before .before .before .before in
+    λ b R. judged-stable _ R (book (t .before .before .before)) (names t) (c .before .before .before .before .before .before .before .before .places-of .ensures) _ (c .before .before .check-stable .ensures)
     (ap verdictOf (c .enum-told5 .given .1))
 
 pub judge-spec : {M : Type 1} → statement M

@@ -5,7 +5,7 @@ use Rattle.repair.proofs.pair.nearest_in.Statement.{statement}
 use Rattle.repair.proofs.pair.nearest_in.Tie as tie
 
 nearest-requires : tie.Need-nearest-requires
-nearest-requires c κs = let s = c .before .before .before .before .before .before .before .before .before .before .before .before .before .before .before in (given-none (s .pre .0), s .pre .1)
+nearest-requires c κs = let s = c .before .before .before .before .before .before .before .before in (given-none (s .pre .0), s .pre .1)
 
 returns : tie.Need-returns
 returns c = search needs

@@ -3,18 +3,25 @@ use mathlib.Core.Path.{_≡_, sym, _∙_, ap}
 use denote.Ref.{now}
 use borrow.Author.Needs.{needs}
 use Rattle.instance.specs.Verdict.{Verdict, fine, verdictOf}
-use Rattle.matching.specs.Judge.{book-judged}
+use Rattle.matching.specs.Judge.{BookJudged, book-judged}
 use Rattle.matching.specs.Matching.{checkMatching}
 use Rattle.repair.specs.Grade.{grade, gradeOf, replyIf}
-use Rattle.repair.specs.Laws.Book.{judged-usable, extreme-ends, grade-book}
+use Rattle.repair.specs.Laws.Book.{judged-usable, judged-given, grade-book}
 use Rattle.repair.proofs.robust.grade.Statement.{statement}
 use Rattle.repair.proofs.robust.grade.Tie as tie
+
+-- where the function is entered, and what was made of the book
+abbrev start : tie.After-judge → tie.Start
+start d = d .before .before .before .before .before .before .before .before .before .before .before .before .before .before .before .before .before
+
+judged : (d : tie.After-judge) → BookJudged (now (start d .args .book)) (now (start d .args .matching)) (d .before .before .before .before .before .before .before .before .before .before .before .before .before .before .load .result) (d .judge .result)
+judged d = book-judged (d .before .before .before .before .before .before .before .before .before .before .before .before .before .before .load .ensures) (d .judge .ensures)
 
 load-requires : tie.Need-load-requires
 load-requires c κs = search needs
 
 judge-requires : tie.Need-judge-requires
-judge-requires c κs = record { book = _; recorded = c .load .ensures }
+judge-requires c κs = record { book = _; recorded = c .before .before .before .before .before .before .before .before .before .before .before .before .before .load .ensures }
 
 enum-told : tie.Need-enum-told
 enum-told c = search needs
@@ -27,35 +34,25 @@ ungraded-requires c κs = search needs
 
 returns : tie.Need-returns
 returns c =
-    let s = c .before .before .before .before .before .before .before in
+    let d = c .before .before .before in
     let e = ap verdictOf (c .before .enum-told2 .given .1) in
     c .ungraded .ensures
     ∙ ap (λ (v : Verdict). replyIf v (grade 0)) e
-    ∙ sym (ap (λ (v : Verdict). replyIf v (grade (gradeOf (now (s .args .book)) (now (s .args .matching))))) (sym (c .before .before .before .judge .ensures _ (c .before .before .before .before .load .ensures) .checked) ∙ e))
+    ∙ sym (ap (λ (v : Verdict). replyIf v (grade (gradeOf (now (start d .args .book)) (now (start d .args .matching))))) (sym (judged d .judged .checked) ∙ e))
 
 -- the matching is stable where the check answered so
-passed : (c : tie.After-enum-told) → checkMatching (now (c .before .before .before .before .before .before .args .book)) (now (c .before .before .before .before .before .before .args .matching)) ≡ fine
-passed c = sym (c .before .before .judge .ensures _ (c .before .before .before .load .ensures) .checked) ∙ ap verdictOf (c .enum-told .given .1)
-
-woman-optimal-places-requires : tie.Need-woman-optimal-places-requires
-woman-optimal-places-requires c κs = judged-usable (book-judged (c .before .before .before .before .before .load .ensures) (c .before .before .before .before .judge .ensures)) (passed (c .before .before))
-
-man-optimal-places-requires : tie.Need-man-optimal-places-requires
-man-optimal-places-requires c κs = judged-usable (book-judged (c .before .before .before .before .before .before .load .ensures) (c .before .before .before .before .before .judge .ensures)) (passed (c .before .before .before))
+passed : (c : tie.After-enum-told) → checkMatching (now (start (c .before .before) .args .book)) (now (start (c .before .before) .args .matching)) ≡ fine
+passed c = sym (judged (c .before .before) .judged .checked) ∙ ap verdictOf (c .enum-told .given .1)
 
 robustness-requires : tie.Need-robustness-requires
-robustness-requires c κs =
-    let d = c .before .before .before .before .before .before .before .before .before .before .before .before .before in
-    extreme-ends (book-judged (d .before .before .before .before .before .before .before .before .before .load .ensures) (d .before .before .before .before .before .before .before .before .judge .ensures)) (passed (d .before .before .before .before .before .before))
-    (d .before .before .before .woman-optimal-places .ensures) (d .before .before .man-optimal-places .ensures)
+robustness-requires c κs = let e = c .before .before .before .before .before .before .before .before .before .before .before .before .before in (judged-usable (judged (e .before .before)) (passed e), judged-given (judged (e .before .before)) (passed e))
 
 returns-2 : tie.Need-returns-2
 returns-2 c =
-    let d = c .before .before .before .before .before .before .before .before .before .before .before .before .before .before .before .before .before .before .before .before in
-    let s = d .before .before .before .before .before .before in
-    let f = passed d in
-    ap grade (c .robustness .ensures ∙ grade-book (book-judged (d .before .before .before .load .ensures) (d .before .before .judge .ensures)) f)
-    ∙ sym (ap (λ (v : Verdict). replyIf v (grade (gradeOf (now (s .args .book)) (now (s .args .matching))))) f)
+    let e = c .before .before .before .before .before .before .before .before .before .before .before .before .before .before in
+    let d = e .before .before in
+    ap grade (c .robustness .ensures ∙ grade-book (judged d) (passed e))
+    ∙ sym (ap (λ (v : Verdict). replyIf v (grade (gradeOf (now (start d .args .book)) (now (start d .args .matching))))) (passed e))
 
 pub grade-spec : {M : Type 1} → statement M
 grade-spec =
@@ -67,7 +64,5 @@ grade-spec =
     enum-told-2
     ungraded-requires
     returns
-    woman-optimal-places-requires
-    man-optimal-places-requires
     robustness-requires
     returns-2)

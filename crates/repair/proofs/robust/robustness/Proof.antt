@@ -10,6 +10,7 @@ use Rattle.laws.specs.Values.{vec}
 use Rattle.deferred.specs.Lists.{marketOf}
 use borrow.Author.Needs.{needs}
 use Rattle.repair.specs.Nearest.{costs}
+use Rattle.repair.specs.Laws.Ends.{given-extremes}
 use Rattle.repair.proofs.robust.robustness.Statement.{statement}
 use Rattle.repair.proofs.robust.robustness.Tie as tie
 
@@ -22,19 +23,28 @@ abbrev μ-loop : tie.MeasureT-loop
 
 -- the costs of the men
 abbrev counted : tie.Start Inv-loop μ-loop → ℕ → ℕ
-counted s = costs (marketOf (s .args .n) (s .args .n) (now (s .args .mlens)) (now (s .args .mlists)) (now (s .args .wlens)) (now (s .args .wlists))) (vec (s .args .men))
+counted s = costs (marketOf (s .args .n) (s .args .n) (now (s .args .mlens)) (now (s .args .mlists)) (now (s .args .wlens)) (now (s .args .wlists))) (vec (s .args .places .men))
 
 loop-holds : tie.Need-loop-holds Inv-loop μ-loop
 loop-holds c = (omega arith, refl)
 
+woman-optimal-places-requires : tie.Need-woman-optimal-places-requires Inv-loop μ-loop
+woman-optimal-places-requires c κs = let s = c .before .before .before .before .before .before .before .before in (s .pre .0 .women, s .pre .0 .few)
+
+man-optimal-places-requires : tie.Need-man-optimal-places-requires Inv-loop μ-loop
+man-optimal-places-requires c κs = let s = c .before .before .before .before .before .before .before .before .before in (s .pre .0 .men, s .pre .0 .few)
+
 nearest-requires : tie.Need-nearest-requires Inv-loop μ-loop
-nearest-requires c κs = (c .before .before .before .before .before .before .before .before .pre, c .loop-test .taken)
+nearest-requires c κs =
+    let d = c .before .before .before .before in
+    let s = d .before .before .before .before .before .before .before .before .before .before in
+    (given-extremes (s .pre .0) (s .pre .1) (d .before .woman-optimal-places .ensures) (d .man-optimal-places .ensures), c .loop-test .taken)
 
 less-one-requires : tie.Need-less-one-requires Inv-loop μ-loop
 less-one-requires c κs = search needs
 
 add-s : tie.Need-add-s Inv-loop μ-loop
-add-s c = omega arith
+add-s c = let s = c .before .before .before .before .before .before .before .before .before .before .before .before .before .before .before .before .before in omega (arith, s .pre .0 .few)
 
 loop-less : tie.Need-loop-less Inv-loop μ-loop
 loop-less c = omega arith
@@ -45,14 +55,14 @@ larger c = ⊎-elim (λ w. omega (arith, w .0 .taken, w .1)) (λ w. omega (arith
 
 loop-again : tie.Need-loop-again Inv-loop μ-loop
 loop-again c =
-    let s = c .before .before .before .before .before .before .before .before .before .before .before in (
+    let s = c .before .before .before .before .before .before .before .before .before .before .before .before .before .before .before .before .before in (
       omega arith,
       larger c ∙ largest-more (counted s) {i = c .before .before .before .before .loop .s} (c .before .before .before .before .loop .inv .1) (c .before .less-one .ensures ∙ ap (λ (k : ℕ). k - 1) (c .before .before .nearest .ensures .distance)),
     )
 
 returns : tie.Need-returns Inv-loop μ-loop
 returns c =
-    let s = c .before .before .before .before .before .before .before .before in
+    let s = c .before .before .before .before .before .before .before .before .before .before .before .before .before .before in
     let e : c .before .loop .s ≡ s .args .n = omega arith in
     c .before .loop .inv .1 ∙ ap (λ (k : ℕ). largest k (counted s)) e
 
@@ -62,6 +72,8 @@ robustness-spec =
     (tie.spec
     Inv-loop
     μ-loop
+    woman-optimal-places-requires
+    man-optimal-places-requires
     loop-holds
     nearest-requires
     less-one-requires

@@ -8,7 +8,7 @@ use lib.ListN.{length, drop, length-replicate}
 use Rattle.instance.specs.Check.{checkBook}
 use Rattle.instance.specs.Verdict.{Verdict, verdictOf}
 use Rattle.rotations.specs.RotationList.{listBytes, rotationCount, counting}
-use Rattle.rotations.specs.Laws.WriteCode.{listRoom}
+use Rattle.rotations.specs.Laws.Numbers.{listRoom}
 use Rattle.rotations.specs.Laws.Replies.{Read, record-read, read-usable, room-refused, room-short, room-fits, reply-refused, reply-fine}
 use Rattle.rotations.specs.Laws.BookList.{list-bytes, list-long, list-within, list-small, book-numbered}
 use borrow.Author.Needs.{needs}
@@ -18,10 +18,10 @@ use Rattle.rotations.proofs.listing.list.Tie as tie
 read : (c : tie.After-enum-told) → Read (c .before .before .before .before .before .args .book .now) (c .before .before .load .result .instance)
 read c = record-read (c .before .before .load .ensures) (ap verdictOf (c .enum-told .given .1))
 
-written : (c : tie.After-slice-known2) → c .before .before .copy .last .1 .1 .0 ≡ listBytes (c .before .before .before .before .before .before .before .before .before .before .before .before .before .before .before .before .before .before .before .before .before .before .before .before .before .before .before .args .book .now) ++ drop (length (listBytes (c .before .before .before .before .before .before .before .before .before .before .before .before .before .before .before .before .before .before .before .before .before .before .before .before .before .before .before .args .book .now))) (c .before .before .before .before .before .before .before .before .before .before .before .before .before .before .before .before .before .before .before .before .before .before .before .before .before .before .before .args .out .now)
+written : (c : tie.After-slice-known2) → c .before .before .copy .last .1 .1 .0 ≡ listBytes (c .before .before .before .before .before .before .before .before .before .before .before .before .before .before .before .before .before .before .before .before .before .before .before .before .before .before .before .before .args .book .now) ++ drop (length (listBytes (c .before .before .before .before .before .before .before .before .before .before .before .before .before .before .before .before .before .before .before .before .before .before .before .before .before .before .before .before .args .book .now))) (c .before .before .before .before .before .before .before .before .before .before .before .before .before .before .before .before .before .before .before .before .before .before .before .before .before .before .before .before .args .out .now)
 written c =
-    let R = read (c .before .before .before .before .before .before .before .before .before .before .before .before .before .before .before .before .before .before .before .before .before .before) in
-    c .before .before .copy .ensures ∙ ap₂ (λ (l : List ℕ) (n : ℕ). l ++ drop n (c .before .before .before .before .before .before .before .before .before .before .before .before .before .before .before .before .before .before .before .before .before .before .before .before .before .before .before .args .out .now)) (list-bytes R (c .before .before .before .before .before .before .number-all .ensures)) (sym (list-long R (c .before .before .before .before .before .before .number-all .ensures)))
+    let R = read (c .before .before .before .before .before .before .before .before .before .before .before .before .before .before .before .before .before .before .before .before .before .before .before) in
+    c .before .before .copy .ensures ∙ ap₂ (λ (l : List ℕ) (n : ℕ). l ++ drop n (c .before .before .before .before .before .before .before .before .before .before .before .before .before .before .before .before .before .before .before .before .before .before .before .before .before .before .before .before .args .out .now)) (list-bytes R (c .before .before .before .before .before .before .before .number-all .ensures)) (sym (list-long R (c .before .before .before .before .before .before .before .number-all .ensures)))
 
 load-requires : tie.Need-load-requires
 load-requires c κs = search needs
@@ -43,6 +43,9 @@ returns c = let b = c .before .before .before .before .before .before .args .boo
 man-optimal-places-requires : tie.Need-man-optimal-places-requires
 man-optimal-places-requires c κs = read-usable (read c)
 
+slice-aggregate-number-all : tie.Need-slice-aggregate-number-all
+slice-aggregate-number-all c = search needs
+
 number-all-requires : tie.Need-number-all-requires
 number-all-requires c κs = (read-usable (read (c .before .before .before .before .before .before .before .before .before .before .before .before .before .before .before)), (c .before .before .before .before .before .before .before .before .before .before .before .before .before .before .man-optimal-places .ensures, length-replicate {A = ℕ} listRoom 0))
 
@@ -53,24 +56,24 @@ reply-requires-2 : tie.Need-reply-requires-2
 reply-requires-2 c κs = search needs
 
 returns-2 : tie.Need-returns-2
-returns-2 c = let b = c .before .before .before .before .before .before .before .before .before .before .before .before .before .before .before .before .before .before .before .before .before .before .before .before .args .book .now in let o = c .before .before .before .before .before .before .before .before .before .before .before .before .before .before .before .before .before .before .before .before .before .before .before .before .args .out .now in
-    let R = read (c .before .before .before .before .before .before .before .before .before .before .before .before .before .before .before .before .before .before .before) in
-    reply-refused (room-short (checkBook b) (length (listBytes b)) (length o) (R .fine) (omega (arith, list-long R (c .before .before .before .number-all .ensures), c .before .before .if1 .taken))) (rotationCount b) (length (listBytes b)) (listBytes b) o (c .reply2 .ensures ∙ ap (λ (v : Verdict). counting v 0) (c .before .refuse .ensures))
+returns-2 c = let b = c .before .before .before .before .before .before .before .before .before .before .before .before .before .before .before .before .before .before .before .before .before .before .before .before .before .args .book .now in let o = c .before .before .before .before .before .before .before .before .before .before .before .before .before .before .before .before .before .before .before .before .before .before .before .before .before .args .out .now in
+    let R = read (c .before .before .before .before .before .before .before .before .before .before .before .before .before .before .before .before .before .before .before .before) in
+    reply-refused (room-short (checkBook b) (length (listBytes b)) (length o) (R .fine) (omega (arith, list-long R (c .before .before .before .before .number-all .ensures), c .before .before .if1 .taken))) (rotationCount b) (length (listBytes b)) (listBytes b) o (c .reply2 .ensures ∙ ap (λ (v : Verdict). counting v 0) (c .before .refuse .ensures))
 
 slice-aggregate-copy : tie.Need-slice-aggregate-copy
-slice-aggregate-copy c = sym (c .before .before .number-all .ensures .long)
+slice-aggregate-copy c = sym (c .before .before .before .number-all .ensures .long)
 
 copy-requires : tie.Need-copy-requires
-copy-requires c κs = let R = read (c .before .before .before .before .before .before .before .before .before .before .before .before .before .before .before .before .before .before .before) in
-    ((list-within R (c .before .before .before .number-all .ensures), omega (arith, c .before .before .if1 .left)), list-small R (c .before .before .before .number-all .ensures))
+copy-requires c κs = let R = read (c .before .before .before .before .before .before .before .before .before .before .before .before .before .before .before .before .before .before .before .before) in
+    ((list-within R (c .before .before .before .before .number-all .ensures), omega (arith, c .before .before .if1 .left)), list-small R (c .before .before .before .before .number-all .ensures))
 
 same-length : tie.Need-same-length
 same-length c = search needs
 
 returns-3 : tie.Need-returns-3
-returns-3 c = let b = c .before .before .before .before .before .before .before .before .before .before .before .before .before .before .before .before .before .before .before .before .before .before .before .before .before .before .before .args .book .now in let o = c .before .before .before .before .before .before .before .before .before .before .before .before .before .before .before .before .before .before .before .before .before .before .before .before .before .before .before .args .out .now in
-    let R = read (c .before .before .before .before .before .before .before .before .before .before .before .before .before .before .before .before .before .before .before .before .before .before) in
-    reply-fine (room-fits (checkBook b) (length (listBytes b)) (length o) (R .fine) (omega (arith, list-long R (c .before .before .before .before .before .before .number-all .ensures), c .before .before .before .before .before .if1 .left))) (book-numbered R (c .before .before .before .before .before .before .number-all .ensures) .count) (length (listBytes b)) (listBytes b) o (c .before .before .copy .last .1 .1 .0) (written c)
+returns-3 c = let b = c .before .before .before .before .before .before .before .before .before .before .before .before .before .before .before .before .before .before .before .before .before .before .before .before .before .before .before .before .args .book .now in let o = c .before .before .before .before .before .before .before .before .before .before .before .before .before .before .before .before .before .before .before .before .before .before .before .before .before .before .before .before .args .out .now in
+    let R = read (c .before .before .before .before .before .before .before .before .before .before .before .before .before .before .before .before .before .before .before .before .before .before .before) in
+    reply-fine (room-fits (checkBook b) (length (listBytes b)) (length o) (R .fine) (omega (arith, list-long R (c .before .before .before .before .before .before .before .number-all .ensures), c .before .before .before .before .before .if1 .left))) (book-numbered R (c .before .before .before .before .before .before .before .number-all .ensures) .count) (length (listBytes b)) (listBytes b) o (c .before .before .copy .last .1 .1 .0) (written c)
 
 pub list-spec : {M : Type 1} → statement M
 list-spec =
@@ -82,6 +85,7 @@ list-spec =
     reply-requires
     returns
     man-optimal-places-requires
+    slice-aggregate-number-all
     number-all-requires
     refuse-requires
     reply-requires-2

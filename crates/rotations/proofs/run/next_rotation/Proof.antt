@@ -12,11 +12,11 @@ use borrow.Author.Needs.{needs}
 use Rattle.rotations.proofs.run.next_rotation.Statement.{statement}
 use Rattle.rotations.proofs.run.next_rotation.Tie as tie
 
-exposed : (c : tie.Else1) → Exposed (marketOf (c .before .before .before .before .before .before .before .before .before .before .before .before .before .before .before .before .before .before .before .before .args .a) (c .before .before .before .before .before .before .before .before .before .before .before .before .before .before .before .before .before .before .before .before .args .b) (c .before .before .before .before .before .before .before .before .before .before .before .before .before .before .before .before .before .before .before .before .args .plens .now) (c .before .before .before .before .before .before .before .before .before .before .before .before .before .before .before .before .before .before .before .before .args .plists .now) (c .before .before .before .before .before .before .before .before .before .before .before .before .before .before .before .before .before .before .before .before .args .rlens .now) (c .before .before .before .before .before .before .before .before .before .before .before .before .before .before .before .before .before .before .before .before .args .rlists .now)) (vec (c .before .before .before .before .before .before .before .before .before .before .before .before .before .before .before .before .before .before .before .before .args .p .now)) (rotationAt (marketOf (c .before .before .before .before .before .before .before .before .before .before .before .before .before .before .before .before .before .before .before .before .args .a) (c .before .before .before .before .before .before .before .before .before .before .before .before .before .before .before .before .before .before .before .before .args .b) (c .before .before .before .before .before .before .before .before .before .before .before .before .before .before .before .before .before .before .before .before .args .plens .now) (c .before .before .before .before .before .before .before .before .before .before .before .before .before .before .before .before .before .before .before .before .args .plists .now) (c .before .before .before .before .before .before .before .before .before .before .before .before .before .before .before .before .before .before .before .before .args .rlens .now) (c .before .before .before .before .before .before .before .before .before .before .before .before .before .before .before .before .before .before .before .before .args .rlists .now)) (vec (c .before .before .before .before .before .before .before .before .before .before .before .before .before .before .before .before .before .before .before .before .args .p .now)) (c .before .before .before .before .before .lowest .result))
-exposed c = let s = c .before .before .before .before .before .before .before .before .before .before .before .before .before .before .before .before .before .before .before .before in cycle-exposed (s .pre .0 .proper) (vec (s .args .p .now)) (c .if1 .left) (c .before .before .before .before .before .lowest .ensures .is)
+exposed : (c : tie.Else1) → Exposed (marketOf (c .before .before .before .before .before .before .before .before .before .before .before .before .before .before .before .before .before .before .before .before .before .args .a) (c .before .before .before .before .before .before .before .before .before .before .before .before .before .before .before .before .before .before .before .before .before .args .b) (c .before .before .before .before .before .before .before .before .before .before .before .before .before .before .before .before .before .before .before .before .before .args .plens .now) (c .before .before .before .before .before .before .before .before .before .before .before .before .before .before .before .before .before .before .before .before .before .args .plists .now) (c .before .before .before .before .before .before .before .before .before .before .before .before .before .before .before .before .before .before .before .before .before .args .rlens .now) (c .before .before .before .before .before .before .before .before .before .before .before .before .before .before .before .before .before .before .before .before .before .args .rlists .now)) (vec (c .before .before .before .before .before .before .before .before .before .before .before .before .before .before .before .before .before .before .before .before .before .args .p .now)) (rotationAt (marketOf (c .before .before .before .before .before .before .before .before .before .before .before .before .before .before .before .before .before .before .before .before .before .args .a) (c .before .before .before .before .before .before .before .before .before .before .before .before .before .before .before .before .before .before .before .before .before .args .b) (c .before .before .before .before .before .before .before .before .before .before .before .before .before .before .before .before .before .before .before .before .before .args .plens .now) (c .before .before .before .before .before .before .before .before .before .before .before .before .before .before .before .before .before .before .before .before .before .args .plists .now) (c .before .before .before .before .before .before .before .before .before .before .before .before .before .before .before .before .before .before .before .before .before .args .rlens .now) (c .before .before .before .before .before .before .before .before .before .before .before .before .before .before .before .before .before .before .before .before .before .args .rlists .now)) (vec (c .before .before .before .before .before .before .before .before .before .before .before .before .before .before .before .before .before .before .before .before .before .args .p .now)) (c .before .before .before .before .before .lowest .result))
+exposed c = let s = c .before .before .before .before .before .before .before .before .before .before .before .before .before .before .before .before .before .before .before .before .before in cycle-exposed (s .pre .0 .proper) (vec (s .args .p .now)) (c .if1 .left) (c .before .before .before .before .before .lowest .ensures .is)
 
 lowest-requires : tie.Need-lowest-requires
-lowest-requires c κs = let s = c .before .before .before .before .before .before .before .before .before .before .before .before .before .before in (s .pre .0, (s .pre .1 .1 .0, ((s .pre .1 .1 .1 .0 .0, s .pre .1 .1 .1 .0 .1, s .pre .1 .1 .1 .0 .2), s .pre .1 .1 .1 .1 .0)))
+lowest-requires c κs = let s = c .before .before .before .before .before .before .before .before .before .before .before .before .before .before .before in (s .pre .0, (s .pre .1 .1 .0, (s .pre .1 .1 .1 .0, s .pre .1 .1 .1 .1 .0)))
 
 same-length : tie.Need-same-length
 same-length c = search needs
@@ -31,13 +31,13 @@ same-length-4 : tie.Need-same-length-4
 same-length-4 c = search needs
 
 returns : tie.Need-returns
-returns c = none (rw (← c .before .before .before .before .before .lowest .ensures .is) (c .if1 .taken)) refl refl
+returns c = let s = c .before .before .before .before .before .before .before .before .before .before .before .before .before .before .before .before .before .before .before .before .before in none (rw (← c .before .before .before .before .before .lowest .ensures .is) (c .if1 .taken)) refl refl
 
 write-cycle-requires : tie.Need-write-cycle-requires
-write-cycle-requires c κs = let s = c .before .before .before .before .before .before .before .before .before .before .before .before .before .before .before .before .before .before .before .before .before .before .before .before in (s .pre .0, (s .pre .1 .1 .0, ((c .before .before .before .before .before .before .before .before .before .lowest .kept .1 .1 .1 .1 .1 .1 .1 .1 .1 .0 ∙ s .pre .1 .1 .1 .0 .0, c .before .before .before .before .if1 .left, s .pre .1 .1 .1 .0 .2, s .pre .1 .1 .1 .0 .3), (state-on (s .pre .1 .1 .1 .1 .0) (c .before .before .before .before .before .before .before .before .before .lowest .ensures .advanced), (c .before .before .before .before .before .before .before .before .before .lowest .ensures .is, room-now (s .pre .0 .proper) (s .pre .1 .1 .1 .1 .0 .stable) (exposed (c .before .before .before .before)) (s .pre .1 .1 .1 .1 .1) (λ i u. s .pre .0 .proposers .short u))))))
+write-cycle-requires c κs = let s = c .before .before .before .before .before .before .before .before .before .before .before .before .before .before .before .before .before .before .before .before .before .before .before .before .before in (s .pre .0, (s .pre .1 .1 .0, ((c .before .before .before .before .before .before .before .before .before .lowest .kept .1 .1 .1 .1 .1 .1 .1 .1 .1 .0 ∙ s .pre .1 .1 .1 .0 .0, c .before .before .before .before .if1 .left, s .pre .1 .1 .1 .0 .2), (state-on (s .pre .1 .1 .1 .1 .0) (c .before .before .before .before .before .before .before .before .before .lowest .ensures .advanced), (c .before .before .before .before .before .before .before .before .before .lowest .ensures .is, room-now (s .pre .0 .proper) (s .pre .1 .1 .1 .1 .0 .stable) (exposed (c .before .before .before .before)) (s .pre .1 .1 .1 .1 .1) (λ i u. s .pre .0 .proposers .short u))))))
 
 eliminate-requires : tie.Need-eliminate-requires
-eliminate-requires c κs = let s = c .before .before .before .before .before .before .before .before .before .before .before .before .before .before .before .before .before .before .before .before .before .before .before .before .before .before .before .before .before .before .before in written-eliminable (s .pre .0) (s .pre .1 .0) (s .args .p .now) (s .args .t .now) (s .pre .1 .1 .1 .1 .0 .stable) (exposed (c .before .before .before .before .before .before .before .before .before .before .before)) (c .before .before .before .before .before .before .write-cycle .ensures .written) (s .pre .1 .1 .0 .places) (s .pre .1 .1 .0 .bests)
+eliminate-requires c κs = let s = c .before .before .before .before .before .before .before .before .before .before .before .before .before .before .before .before .before .before .before .before .before .before .before .before .before .before .before .before .before .before .before .before .before in written-eliminable (s .pre .0) (s .pre .1 .0) (s .args .p .now) (s .args .t .now) (s .pre .1 .1 .1 .1 .0 .stable) (exposed (c .before .before .before .before .before .before .before .before .before .before .before .before)) (c .before .before .before .before .before .before .before .write-cycle .ensures .written) (s .pre .1 .1 .0 .places) (s .pre .1 .1 .0 .bests)
 
 same-length-5 : tie.Need-same-length-5
 same-length-5 c = search needs
@@ -51,8 +51,11 @@ same-length-7 c = search needs
 same-length-8 : tie.Need-same-length-8
 same-length-8 c = search needs
 
+same-length-9 : tie.Need-same-length-9
+same-length-9 c = search needs
+
 returns-2 : tie.Need-returns-2
-returns-2 c = let s = c .before .before .before .before .before .before .before .before .before .before .before .before .before .before .before .before .before .before .before .before .before .before .before .before .before .before .before .before .before .before .before .before .before .before .before .before in one-turn (s .pre .0) (s .pre .1 .0) (s .args .p .now) (s .args .t .now) (c .before .before .before .before .before .before .before .before .before .before .before .before .before .before .before .before .if1 .left) (c .before .before .before .before .before .before .before .before .before .before .before .before .before .before .before .before .before .before .before .before .before .lowest .ensures .is) (state-on (s .pre .1 .1 .1 .1 .0) (c .before .before .before .before .before .before .before .before .before .before .before .before .before .before .before .before .before .before .before .before .before .lowest .ensures .advanced)) (c .before .before .before .before .before .before .before .before .before .before .before .write-cycle .ensures) (c .before .before .before .before .eliminate .ensures)
+returns-2 c = let s = c .before .before .before .before .before .before .before .before .before .before .before .before .before .before .before .before .before .before .before .before .before .before .before .before .before .before .before .before .before .before .before .before .before .before .before .before .before .before in one-turn (s .pre .0) (s .pre .1 .0) (s .args .p .now) (s .args .t .now) (c .before .before .before .before .before .before .before .before .before .before .before .before .before .before .before .before .before .if1 .left) (c .before .before .before .before .before .before .before .before .before .before .before .before .before .before .before .before .before .before .before .before .before .before .lowest .ensures .is) (state-on (s .pre .1 .1 .1 .1 .0) (c .before .before .before .before .before .before .before .before .before .before .before .before .before .before .before .before .before .before .before .before .before .before .lowest .ensures .advanced)) (c .before .before .before .before .before .before .before .before .before .before .before .before .write-cycle .ensures) (c .before .before .before .before .eliminate .ensures)
 
 pub next-rotation-spec : {M : Type 1} → statement M
 next-rotation-spec =
@@ -70,4 +73,5 @@ next-rotation-spec =
     same-length-6
     same-length-7
     same-length-8
+    same-length-9
     returns-2)

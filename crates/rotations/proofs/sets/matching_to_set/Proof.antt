@@ -9,7 +9,7 @@ use Rattle.instance.specs.Verdict.{Verdict, fine, verdictOf}
 use Rattle.matching.specs.Matching.{checkMatching}
 use Rattle.matching.specs.Judge.{JudgedIs}
 use Rattle.rotations.specs.RotationList.{rotationCount, counting}
-use Rattle.rotations.specs.Laws.WriteCode.{listRoom}
+use Rattle.rotations.specs.Laws.Numbers.{listRoom}
 use Rattle.rotations.specs.Laws.Replies.{read-usable, room-refused, room-short, room-fits, reply-refused, reply-fine}
 use Rattle.rotations.specs.Laws.BookOrder.{book-readable}
 use Rattle.rotations.specs.Laws.MatchingSets.{judged-read, judged-room, judged-count, judged-set}
@@ -52,6 +52,9 @@ returns c =
 man-optimal-places-requires : tie.Need-man-optimal-places-requires
 man-optimal-places-requires c κs = read-usable (judged-read (c .before .before .before .load .ensures) (judged (c .before .before)) (passed c))
 
+slice-aggregate-number-all : tie.Need-slice-aggregate-number-all
+slice-aggregate-number-all c = search needs
+
 number-all-requires : tie.Need-number-all-requires
 number-all-requires c κs = (read-usable (judged-read (c .before .before .before .before .before .before .before .before .before .before .before .before .before .before .before .before .before .before .load .ensures) (judged (c .before .before .before .before .before .before .before .before .before .before .before .before .before .before .before .before .before)) (passed (c .before .before .before .before .before .before .before .before .before .before .before .before .before .before .before))), (c .before .before .before .before .before .before .before .before .before .before .before .before .before .before .man-optimal-places .ensures, length-replicate {A = ℕ} listRoom 0))
 
@@ -63,34 +66,34 @@ reply-requires-2 c κs = search needs
 
 returns-2 : tie.Need-returns-2
 returns-2 c =
-    let b = c .before .before .before .before .before .before .before .before .before .before .before .before .before .before .before .before .before .before .before .before .before .before .before .before .before .before .args .book .now in
-    let m = c .before .before .before .before .before .before .before .before .before .before .before .before .before .before .before .before .before .before .before .before .before .before .before .before .before .before .args .matching .now in
-    let o = c .before .before .before .before .before .before .before .before .before .before .before .before .before .before .before .before .before .before .before .before .before .before .before .before .before .before .args .out .now in
-    reply-refused (room-short (checkMatching b m) (rotationCount b) (length o) (passed (c .before .before .before .before .before .before .before .before .before .before .before .before .before .before .before .before .before .before .before)) (omega (arith, count (c .before .before .before), c .before .before .if1 .taken))) (rotationCount b) (rotationCount b) (matchingSet b m) o (c .reply2 .ensures ∙ ap (λ (v : Verdict). counting v 0) (c .before .refuse .ensures))
+    let b = c .before .before .before .before .before .before .before .before .before .before .before .before .before .before .before .before .before .before .before .before .before .before .before .before .before .before .before .args .book .now in
+    let m = c .before .before .before .before .before .before .before .before .before .before .before .before .before .before .before .before .before .before .before .before .before .before .before .before .before .before .before .args .matching .now in
+    let o = c .before .before .before .before .before .before .before .before .before .before .before .before .before .before .before .before .before .before .before .before .before .before .before .before .before .before .before .args .out .now in
+    reply-refused (room-short (checkMatching b m) (rotationCount b) (length o) (passed (c .before .before .before .before .before .before .before .before .before .before .before .before .before .before .before .before .before .before .before .before)) (omega (arith, count (c .before .before .before .before), c .before .before .if1 .taken))) (rotationCount b) (rotationCount b) (matchingSet b m) o (c .reply2 .ensures ∙ ap (λ (v : Verdict). counting v 0) (c .before .refuse .ensures))
 
 slice-aggregate-write-set : tie.Need-slice-aggregate-write-set
-slice-aggregate-write-set c = sym (c .before .before .before .before .before .number-all .ensures .long)
+slice-aggregate-write-set c = sym (c .before .before .before .before .before .before .number-all .ensures .long)
 
 write-set-requires : tie.Need-write-set-requires
 write-set-requires c κs =
-    let R = c .before .before .before .before .before .before .before .before .before .before .before .before .before .before .before .before .before .before .before .before .before .before .before .before .before .before .before .before .load .ensures in
-    let J = judged (c .before .before .before .before .before .before .before .before .before .before .before .before .before .before .before .before .before .before .before .before .before .before .before .before .before .before .before) in
-    let f = passed (c .before .before .before .before .before .before .before .before .before .before .before .before .before .before .before .before .before .before .before .before .before .before .before .before .before) in
+    let R = c .before .before .before .before .before .before .before .before .before .before .before .before .before .before .before .before .before .before .before .before .before .before .before .before .before .before .before .before .before .load .ensures in
+    let J = judged (c .before .before .before .before .before .before .before .before .before .before .before .before .before .before .before .before .before .before .before .before .before .before .before .before .before .before .before .before) in
+    let f = passed (c .before .before .before .before .before .before .before .before .before .before .before .before .before .before .before .before .before .before .before .before .before .before .before .before .before .before) in
     let h = judged-room R J f in
-    (rw (count (c .before .before .before .before .before .before .before .before .before)) (book-readable (judged-read R J f) (c .before .before .before .before .before .before .before .before .before .number-all .ensures)), (h .0, h .1, omega (arith, c .before .before .before .before .before .before .before .before .if1 .left)))
+    (rw (count (c .before .before .before .before .before .before .before .before .before .before)) (book-readable (judged-read R J f) (c .before .before .before .before .before .before .before .before .before .before .number-all .ensures)), (h .0, h .1, omega (arith, c .before .before .before .before .before .before .before .before .if1 .left)))
 
 same-length : tie.Need-same-length
 same-length c = search needs
 
 returns-3 : tie.Need-returns-3
 returns-3 c =
-    let b = c .before .before .before .before .before .before .before .before .before .before .before .before .before .before .before .before .before .before .before .before .before .before .before .before .before .before .before .before .before .before .before .before .before .before .before .args .book .now in
-    let m = c .before .before .before .before .before .before .before .before .before .before .before .before .before .before .before .before .before .before .before .before .before .before .before .before .before .before .before .before .before .before .before .before .before .before .before .args .matching .now in
-    let o = c .before .before .before .before .before .before .before .before .before .before .before .before .before .before .before .before .before .before .before .before .before .before .before .before .before .before .before .before .before .before .before .before .before .before .before .args .out .now in
-    let R = c .before .before .before .before .before .before .before .before .before .before .before .before .before .before .before .before .before .before .before .before .before .before .before .before .before .before .before .before .before .before .before .load .ensures in
-    let J = judged (c .before .before .before .before .before .before .before .before .before .before .before .before .before .before .before .before .before .before .before .before .before .before .before .before .before .before .before .before .before .before) in
-    let f = passed (c .before .before .before .before .before .before .before .before .before .before .before .before .before .before .before .before .before .before .before .before .before .before .before .before .before .before .before .before) in
-    reply-fine (room-fits (checkMatching b m) (rotationCount b) (length o) f (omega (arith, count (c .before .before .before .before .before .before .before .before .before .before .before .before), c .before .before .before .before .before .before .before .before .before .before .before .if1 .left))) (count (c .before .before .before .before .before .before .before .before .before .before .before .before)) (rotationCount b) (matchingSet b m) o _ (judged-set R J f (c .before .before .before .before .before .before .before .before .before .before .before .before .number-all .ensures) o _ (c .before .before .write-set .ensures))
+    let b = c .before .before .before .before .before .before .before .before .before .before .before .before .before .before .before .before .before .before .before .before .before .before .before .before .before .before .before .before .before .before .before .before .before .before .before .before .args .book .now in
+    let m = c .before .before .before .before .before .before .before .before .before .before .before .before .before .before .before .before .before .before .before .before .before .before .before .before .before .before .before .before .before .before .before .before .before .before .before .before .args .matching .now in
+    let o = c .before .before .before .before .before .before .before .before .before .before .before .before .before .before .before .before .before .before .before .before .before .before .before .before .before .before .before .before .before .before .before .before .before .before .before .before .args .out .now in
+    let R = c .before .before .before .before .before .before .before .before .before .before .before .before .before .before .before .before .before .before .before .before .before .before .before .before .before .before .before .before .before .before .before .before .load .ensures in
+    let J = judged (c .before .before .before .before .before .before .before .before .before .before .before .before .before .before .before .before .before .before .before .before .before .before .before .before .before .before .before .before .before .before .before) in
+    let f = passed (c .before .before .before .before .before .before .before .before .before .before .before .before .before .before .before .before .before .before .before .before .before .before .before .before .before .before .before .before .before) in
+    reply-fine (room-fits (checkMatching b m) (rotationCount b) (length o) f (omega (arith, count (c .before .before .before .before .before .before .before .before .before .before .before .before .before), c .before .before .before .before .before .before .before .before .before .before .before .if1 .left))) (count (c .before .before .before .before .before .before .before .before .before .before .before .before .before)) (rotationCount b) (matchingSet b m) o _ (judged-set R J f (c .before .before .before .before .before .before .before .before .before .before .before .before .before .number-all .ensures) o _ (c .before .before .write-set .ensures))
 
 pub matching-to-set-spec : {M : Type 1} → statement M
 matching-to-set-spec =
@@ -103,6 +106,7 @@ matching-to-set-spec =
     reply-requires
     returns
     man-optimal-places-requires
+    slice-aggregate-number-all
     number-all-requires
     refuse-requires
     reply-requires-2
