@@ -66,7 +66,7 @@ pub fn repair(
     let Checked::Fine = asked else {
         return refused(asked);
     };
-    let s = wide(request[0]);
+    let asking = wide(request[0]);
     let places = judged.places;
     let found = nearest_in(
         n,
@@ -77,7 +77,7 @@ pub fn repair(
         &loaded.instance.woman_lists,
         &loaded.instance.woman_ranks,
         places,
-        s,
+        asking,
     );
     let men = places.men;
     answer(n, &loaded.instance.man_lists, men, found, out, gains)

@@ -3,16 +3,15 @@ use crate::run::ROOM;
 use crate::run::number_all;
 use instance::Checked;
 use instance::Instance;
-use instance::Loaded;
 use instance::Refusal;
 use instance::refuse;
-use matching::man_optimal_places;
 ghost use mathlib.Core.Path.{_≡_};
 ghost use mathlib.Core.List.{_++_};
 ghost use Prim.Native.Nat.{ℕ, _≤_, _<_};
 ghost use lib.ListN.{length, take, drop};
 ghost use Rattle.laws.specs.Values.{vec};
 ghost use Rattle.stable_theory.specs.Rotations.Numbering.{total};
+ghost use Rattle.instance.specs.Record.{recordOf};
 ghost use Rattle.instance.specs.Verdict.{verdictOf};
 ghost use Rattle.matching.specs.Usable.{Usable, marketIn};
 ghost use Rattle.matching.specs.Extreme.{filled};
@@ -35,7 +34,6 @@ pub fn list(book: &[u8], out: &mut [u8]) -> Listed
         return reply(answer, 0);
     };
     let n = loaded.instance.n;
-    let places = man_optimal_places(loaded);
     let mut numbers = [0u16; ROOM];
     let extent = number_all(
         n,
@@ -45,7 +43,6 @@ pub fn list(book: &[u8], out: &mut [u8]) -> Listed
         &loaded.instance.woman_lengths,
         &loaded.instance.woman_lists,
         &loaded.instance.woman_ranks,
-        places,
         &mut numbers[..],
     );
     let end = extent.end;
@@ -66,23 +63,28 @@ pub(crate) fn reply(checked: Checked, count: usize) -> Listed
     }
 }
 
-// How many rotations the market of a record has.
-pub fn count(loaded: Loaded) -> usize
-    requires { ⌜ Usable (loaded .instance) ⌝ }
-    ensures { λ r. ⌜ r ≡ total (marketIn (loaded .instance)) ⌝ }
+// How many rotations the market of a record has, whose tables are lent.
+pub fn count<'a>(
+    n: usize,
+    mlens: &'a [u16],
+    mlists: &'a [u16],
+    mranks: &'a [u16],
+    wlens: &'a [u16],
+    wlists: &'a [u16],
+    wranks: &'a [u16],
+) -> usize
+    requires { ⌜ Usable (recordOf n (now mlens) (now mlists) (now mranks) (now wlens) (now wlists) (now wranks)) ⌝ }
+    ensures { λ r. ⌜ r ≡ total (marketIn (recordOf n (now (mlens .entry)) (now (mlists .entry)) (now (mranks .entry)) (now (wlens .entry)) (now (wlists .entry)) (now (wranks .entry)))) ⌝ }
 {
-    let n = loaded.instance.n;
-    let places = man_optimal_places(loaded);
     let mut numbers = [0u16; ROOM];
     let extent = number_all(
         n,
-        &loaded.instance.man_lengths,
-        &loaded.instance.man_lists,
-        &loaded.instance.man_ranks,
-        &loaded.instance.woman_lengths,
-        &loaded.instance.woman_lists,
-        &loaded.instance.woman_ranks,
-        places,
+        mlens,
+        mlists,
+        mranks,
+        wlens,
+        wlists,
+        wranks,
         &mut numbers[..],
     );
     extent.count

@@ -8,7 +8,6 @@ use instance::Checked;
 use instance::Instance;
 use instance::Refusal;
 use instance::refuse;
-use matching::man_optimal_places;
 ghost use mathlib.Core.Path.{_≡_};
 ghost use Prim.Native.Nat.{ℕ, _+_, _*_, _≤_, _<_};
 ghost use lib.ListN.{length};
@@ -41,7 +40,6 @@ pub fn precedes(book: &[u8], first: usize, second: usize) -> Precedence
         return say(answer, false);
     };
     let n = loaded.instance.n;
-    let places = man_optimal_places(loaded);
     let mut list = [0u16; ROOM];
     let extent = number_all(
         n,
@@ -51,7 +49,6 @@ pub fn precedes(book: &[u8], first: usize, second: usize) -> Precedence
         &loaded.instance.woman_lengths,
         &loaded.instance.woman_lists,
         &loaded.instance.woman_ranks,
-        places,
         &mut list[..],
     );
     let count = extent.count;

@@ -3,7 +3,7 @@ use crate::cycle::lowest;
 use crate::turn::eliminate;
 use crate::turn::write_cycle;
 use instance::Instance;
-use matching::Places;
+use matching::man_optimal_places;
 ghost use mathlib.Core.Path.{_≡_};
 ghost use Prim.Native.Nat.{_*_, _≤_, _<_};
 ghost use lib.ListN.{length};
@@ -12,7 +12,6 @@ ghost use Rattle.stable_theory.specs.Stable.Holding.{Same};
 ghost use Rattle.stable_theory.specs.Least.Optimal.{proposer-optimal};
 ghost use Rattle.deferred.specs.Lists.{Tables, Sized, marketOf};
 ghost use Rattle.matching.specs.Usable.{Usable, marketIn};
-ghost use Rattle.matching.specs.ExtremePlaces.{PlacesOf};
 ghost use Rattle.rotations.specs.Laws.Pointers.{State};
 ghost use Rattle.instance.specs.Record.{recordOf};
 ghost use Rattle.rotations.specs.Laws.RunCode.{Room, Turned, Numbered};
@@ -139,7 +138,7 @@ pub(crate) fn fill<'a>(
 // Two and a half numbers for each place: a pair takes two, a rotation one more, each moves at least two men, and no man goes back.
 pub(crate) const ROOM: usize = 10240;
 
-// Writes all rotations of a record into the list, from the student-best places, with its tables lent.
+// Writes all rotations of a record, whose tables are lent, into the list, from the student-best places on.
 pub(crate) fn number_all<'a>(
     n: usize,
     mlens: &'a [u16],
@@ -148,14 +147,13 @@ pub(crate) fn number_all<'a>(
     wlens: &'a [u16],
     wlists: &'a [u16],
     wranks: &'a [u16],
-    places: Places,
     list: &mut [u16],
 ) -> Extent
     requires { ⌜ Usable (recordOf n (now mlens) (now mlists) (now mranks) (now wlens) (now wlists) (now wranks)) ⌝ }
-    requires { ⌜ PlacesOf (recordOf n (now mlens) (now mlists) (now mranks) (now wlens) (now wlists) (now wranks)) (proposer-optimal (marketIn (recordOf n (now mlens) (now mlists) (now mranks) (now wlens) (now wlists) (now wranks)))) places ⌝ }
     requires { ⌜ length (now list) ≡ listRoom ⌝ }
     ensures { λ r. ⌜ NumberingOf (recordOf n (now (mlens .entry)) (now (mlists .entry)) (now (mranks .entry)) (now (wlens .entry)) (now (wlists .entry)) (now (wranks .entry))) (now (list .exit)) r ⌝ }
 {
+    let places = man_optimal_places(n, mlens, mlists, wlens, wlists, wranks);
     let mut p = places.men;
     let mut t = places.women;
     let mut next = [0u16; Instance::LARGEST];

@@ -39,7 +39,6 @@ pub fn set_to_matching(book: &[u8], set: &[u8], out: &mut [u8]) -> Checked
         return answer;
     };
     let n = loaded.instance.n;
-    let places = man_optimal_places(loaded);
     let mut list = [0u16; ROOM];
     let extent = number_all(
         n,
@@ -49,13 +48,20 @@ pub fn set_to_matching(book: &[u8], set: &[u8], out: &mut [u8]) -> Checked
         &loaded.instance.woman_lengths,
         &loaded.instance.woman_lists,
         &loaded.instance.woman_ranks,
-        places,
         &mut list[..],
     );
     let count = extent.count;
     if bad_marks(set, count) {
         return refuse(15, 0);
     }
+    let places = man_optimal_places(
+        n,
+        &loaded.instance.man_lengths,
+        &loaded.instance.man_lists,
+        &loaded.instance.woman_lengths,
+        &loaded.instance.woman_lists,
+        &loaded.instance.woman_ranks,
+    );
     let men = set_places(
         n,
         &loaded.instance.man_ranks,
@@ -115,13 +121,23 @@ pub fn matching_to_set(book: &[u8], matching: &[u8], out: &mut [u8]) -> Listed
     ensures bytes { λ _. ⌜ now (out .exit) ≡ filled (checkMatchingSet (now (book .entry)) (now (matching .entry)) (length (now (out .entry)))) (rotationCount (now (book .entry))) (matchingSet (now (book .entry)) (now (matching .entry))) (now (out .entry)) ⌝ }
 {
     let loaded = Instance::load(book);
-    let judged = judge(loaded, matching);
+    let read = loaded.checked;
+    let n = loaded.instance.n;
+    let judged = judge(
+        read,
+        n,
+        &loaded.instance.man_lengths,
+        &loaded.instance.man_lists,
+        &loaded.instance.man_ranks,
+        &loaded.instance.woman_lengths,
+        &loaded.instance.woman_lists,
+        &loaded.instance.woman_ranks,
+        matching,
+    );
     let answer = judged.checked;
     let Checked::Fine = answer else {
         return reply(answer, 0);
     };
-    let n = loaded.instance.n;
-    let places = man_optimal_places(loaded);
     let mut list = [0u16; ROOM];
     let extent = number_all(
         n,
@@ -131,7 +147,6 @@ pub fn matching_to_set(book: &[u8], matching: &[u8], out: &mut [u8]) -> Listed
         &loaded.instance.woman_lengths,
         &loaded.instance.woman_lists,
         &loaded.instance.woman_ranks,
-        places,
         &mut list[..],
     );
     let count = extent.count;

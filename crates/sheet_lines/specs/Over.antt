@@ -6,8 +6,8 @@ use Rattle.laws.specs.Values.{vec}
 use Rattle.stable_theory.specs.Stable.Market.{Market}
 use Rattle.stable_theory.specs.Repairs.Answer.{answerOf}
 use Rattle.stable_theory.specs.Rotations.Numbering.{total}
-use Rattle.instance.specs.declared.record.Loaded.{Loaded}
-use Rattle.matching.specs.declared.Judged.{Judged}
+use Rattle.instance.specs.declared.record.Instance.{Instance}
+use Rattle.matching.specs.declared.Places.{Places}
 use Rattle.matching.specs.Usable.{marketIn}
 use Rattle.repair.specs.Nearest.{farOf, costs}
 use Rattle.sheet_lines.specs.Line.{topLine, pairLines}
@@ -25,5 +25,5 @@ unfoldable pub sheetIn : Market → (ℕ → ℕ) → ℕ → List ℕ → List 
 sheetIn I p n m = topLine n (total I) (largest n (costs I p)) ++ pairLines (vec m) (letterIn I p) (distanceIn I p) n
 
 -- over what the check leaves
-abbrev pub sheetOver : Loaded → Judged → List ℕ → List ℕ
-sheetOver L j m = sheetIn (marketIn (L .instance)) (vec (j .places .men)) (L .instance .n) m
+abbrev pub sheetOver : Instance → Places → List ℕ → List ℕ
+sheetOver r p m = sheetIn (marketIn r) (vec (p .men)) (r .n) m

@@ -3,8 +3,7 @@ use crate::grade::grade_of;
 use crate::lines::put_pairs;
 use crate::lines::put_top;
 use instance::Instance;
-use instance::Loaded;
-use matching::Judged;
+use matching::Places;
 use matching::man_optimal_places;
 use matching::woman_optimal_places;
 use repair::Letter;
@@ -15,6 +14,7 @@ ghost use Prim.Native.Nat.{_≤_};
 ghost use lib.ListN.{length};
 ghost use Rattle.laws.specs.Values.{vec};
 ghost use Rattle.deferred.specs.Lists.{marketOf};
+ghost use Rattle.instance.specs.Record.{recordOf};
 ghost use Rattle.matching.specs.Usable.{Usable};
 ghost use Rattle.repair.specs.Nearest.{GivenEnds, GivenIn};
 ghost use Rattle.sheet_lines.specs.Put.{Put};
@@ -75,29 +75,39 @@ pub(crate) fn fill_answers<'a>(
     }
 }
 
-// Puts the sheet of a stable matching at the front of `text`.
-pub(crate) fn put_answers(loaded: Loaded, judged: Judged, matching: &[u8], text: &mut [u8]) -> usize
-    requires { ⌜ (Usable (loaded .instance)) × (GivenIn (loaded .instance) (judged .places)) ⌝ }
-    requires { ⌜ (loaded .instance .n ≤ length (now matching)) × (length (sheetOver loaded judged (now matching)) ≤ length (now text)) ⌝ }
-    ensures { λ r. ⌜ Put (now (text .entry)) 0 (sheetOver loaded judged (now (matching .entry))) (now (text .exit)) r ⌝ }
+// Puts the sheet of a stable matching at the front of `text`. Nobody is tried past his place in the extreme matching of the other side.
+pub(crate) fn put_answers<'a>(
+    n: usize,
+    mlens: &'a [u16],
+    mlists: &'a [u16],
+    mranks: &'a [u16],
+    wlens: &'a [u16],
+    wlists: &'a [u16],
+    wranks: &'a [u16],
+    places: Places,
+    matching: &[u8],
+    text: &mut [u8],
+) -> usize
+    requires { ⌜ (Usable (recordOf n (now mlens) (now mlists) (now mranks) (now wlens) (now wlists) (now wranks))) × (GivenIn (recordOf n (now mlens) (now mlists) (now mranks) (now wlens) (now wlists) (now wranks)) places) ⌝ }
+    requires { ⌜ (n ≤ length (now matching)) × (length (sheetOver (recordOf n (now mlens) (now mlists) (now mranks) (now wlens) (now wlists) (now wranks)) places (now matching)) ≤ length (now text)) ⌝ }
+    ensures { λ r. ⌜ Put (now (text .entry)) 0 (sheetOver (recordOf n (now (mlens .entry)) (now (mlists .entry)) (now (mranks .entry)) (now (wlens .entry)) (now (wlists .entry)) (now (wranks .entry))) places (now (matching .entry))) (now (text .exit)) r ⌝ }
 {
-    let n = loaded.instance.n;
-    let men = judged.places.men;
-    let women = judged.places.women;
-    let worst = woman_optimal_places(loaded);
-    let best = man_optimal_places(loaded);
+    let men = places.men;
+    let women = places.women;
+    let worst = woman_optimal_places(n, mlens, mlists, mranks, wlens, wlists);
+    let best = man_optimal_places(n, mlens, mlists, wlens, wlists, wranks);
     let man_ends = worst.men;
     let woman_ends = best.women;
     let mut letters = [0u8; Instance::LARGEST];
     let mut distances = [0usize; Instance::LARGEST];
     fill_answers(
         n,
-        &loaded.instance.man_lengths,
-        &loaded.instance.man_lists,
-        &loaded.instance.man_ranks,
-        &loaded.instance.woman_lengths,
-        &loaded.instance.woman_lists,
-        &loaded.instance.woman_ranks,
+        mlens,
+        mlists,
+        mranks,
+        wlens,
+        wlists,
+        wranks,
         men,
         women,
         man_ends,
@@ -106,7 +116,7 @@ pub(crate) fn put_answers(loaded: Loaded, judged: Judged, matching: &[u8], text:
         &mut distances[..],
     );
     let grade = grade_of(&distances[..], n);
-    let rotations = count(loaded);
+    let rotations = count(n, mlens, mlists, mranks, wlens, wlists, wranks);
     let end = put_top(text, 0, n, rotations, grade);
     put_pairs(text, end, n, matching, &letters[..], &distances[..])
 }

@@ -41,10 +41,34 @@ fn put_sheet(input: &[u8], text: &mut [u8]) -> usize
 {
     let end = book_end(input);
     let loaded = Instance::load(&input[..end]);
-    let judged = judge(loaded, &input[end..]);
+    let read = loaded.checked;
+    let n = loaded.instance.n;
+    let judged = judge(
+        read,
+        n,
+        &loaded.instance.man_lengths,
+        &loaded.instance.man_lists,
+        &loaded.instance.man_ranks,
+        &loaded.instance.woman_lengths,
+        &loaded.instance.woman_lists,
+        &loaded.instance.woman_ranks,
+        &input[end..],
+    );
     let checked = judged.checked;
     let Checked::Fine = checked else {
         return put_refused(text, checked);
     };
-    put_answers(loaded, judged, &input[end..], text)
+    let places = judged.places;
+    put_answers(
+        n,
+        &loaded.instance.man_lengths,
+        &loaded.instance.man_lists,
+        &loaded.instance.man_ranks,
+        &loaded.instance.woman_lengths,
+        &loaded.instance.woman_lists,
+        &loaded.instance.woman_ranks,
+        places,
+        &input[end..],
+        text,
+    )
 }

@@ -109,7 +109,7 @@ module _ {b m : List ℕ} {L : Loaded} {j : Judged} (J : BookJudged b m L j) (f 
       said-book u .distance ∙ sym (distance-far S (answer-of (market-proper (S .matching .formed)) (λ i. 1) (vector-stable S) (holds S v)))
 
   -- and the sheet over the record is the sheet of the bytes
-  pub sheet-over : total I ≡ total (market b) → sheetOver L j m ≡ answers b m
+  pub sheet-over : total I ≡ total (market b) → sheetOver (L .instance) (j .places) m ≡ answers b m
   unfolding sheetIn answers
   sheet-over t =
       rw (t, grade-book J f, ← judged-number J f)

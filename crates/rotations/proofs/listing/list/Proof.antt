@@ -18,10 +18,10 @@ use Rattle.rotations.proofs.listing.list.Tie as tie
 read : (c : tie.After-enum-told) → Read (c .before .before .before .before .before .args .book .now) (c .before .before .load .result .instance)
 read c = record-read (c .before .before .load .ensures) (ap verdictOf (c .enum-told .given .1))
 
-written : (c : tie.After-slice-known2) → c .before .before .copy .last .1 .1 .0 ≡ listBytes (c .before .before .before .before .before .before .before .before .before .before .before .before .before .before .before .before .before .before .before .before .before .before .before .before .before .before .before .before .args .book .now) ++ drop (length (listBytes (c .before .before .before .before .before .before .before .before .before .before .before .before .before .before .before .before .before .before .before .before .before .before .before .before .before .before .before .before .args .book .now))) (c .before .before .before .before .before .before .before .before .before .before .before .before .before .before .before .before .before .before .before .before .before .before .before .before .before .before .before .before .args .out .now)
+written : (c : tie.After-slice-known2) → c .before .before .copy .last .1 .1 .0 ≡ listBytes (c .before .before .before .before .before .before .before .before .before .before .before .before .before .before .before .before .before .before .before .before .before .before .before .before .before .before .before .args .book .now) ++ drop (length (listBytes (c .before .before .before .before .before .before .before .before .before .before .before .before .before .before .before .before .before .before .before .before .before .before .before .before .before .before .before .args .book .now))) (c .before .before .before .before .before .before .before .before .before .before .before .before .before .before .before .before .before .before .before .before .before .before .before .before .before .before .before .args .out .now)
 written c =
-    let R = read (c .before .before .before .before .before .before .before .before .before .before .before .before .before .before .before .before .before .before .before .before .before .before .before) in
-    c .before .before .copy .ensures ∙ ap₂ (λ (l : List ℕ) (n : ℕ). l ++ drop n (c .before .before .before .before .before .before .before .before .before .before .before .before .before .before .before .before .before .before .before .before .before .before .before .before .before .before .before .before .args .out .now)) (list-bytes R (c .before .before .before .before .before .before .before .number-all .ensures)) (sym (list-long R (c .before .before .before .before .before .before .before .number-all .ensures)))
+    let R = read (c .before .before .before .before .before .before .before .before .before .before .before .before .before .before .before .before .before .before .before .before .before .before) in
+    c .before .before .copy .ensures ∙ ap₂ (λ (l : List ℕ) (n : ℕ). l ++ drop n (c .before .before .before .before .before .before .before .before .before .before .before .before .before .before .before .before .before .before .before .before .before .before .before .before .before .before .before .args .out .now)) (list-bytes R (c .before .before .before .before .before .before .before .number-all .ensures)) (sym (list-long R (c .before .before .before .before .before .before .before .number-all .ensures)))
 
 load-requires : tie.Need-load-requires
 load-requires c κs = search needs
@@ -40,14 +40,11 @@ returns c = let b = c .before .before .before .before .before .before .args .boo
     let e = sym (c .before .before .before .load .ensures .checked) ∙ ap verdictOf (c .before .enum-told2 .given .1) in
     reply-refused (room-refused (checkBook b) (length (listBytes b)) (length o) e) (rotationCount b) (length (listBytes b)) (listBytes b) o (c .reply .ensures ∙ ap (λ (v : Verdict). counting v 0) (ap verdictOf (c .before .enum-told2 .given .1)))
 
-man-optimal-places-requires : tie.Need-man-optimal-places-requires
-man-optimal-places-requires c κs = read-usable (read c)
-
 slice-aggregate-number-all : tie.Need-slice-aggregate-number-all
 slice-aggregate-number-all c = search needs
 
 number-all-requires : tie.Need-number-all-requires
-number-all-requires c κs = (read-usable (read (c .before .before .before .before .before .before .before .before .before .before .before .before .before .before .before)), (c .before .before .before .before .before .before .before .before .before .before .before .before .before .before .man-optimal-places .ensures, length-replicate {A = ℕ} listRoom 0))
+number-all-requires c κs = (read-usable (read (c .before .before .before .before .before .before .before .before .before .before .before .before .before .before)), length-replicate {A = ℕ} listRoom 0)
 
 refuse-requires : tie.Need-refuse-requires
 refuse-requires c κs = search needs
@@ -56,23 +53,23 @@ reply-requires-2 : tie.Need-reply-requires-2
 reply-requires-2 c κs = search needs
 
 returns-2 : tie.Need-returns-2
-returns-2 c = let b = c .before .before .before .before .before .before .before .before .before .before .before .before .before .before .before .before .before .before .before .before .before .before .before .before .before .args .book .now in let o = c .before .before .before .before .before .before .before .before .before .before .before .before .before .before .before .before .before .before .before .before .before .before .before .before .before .args .out .now in
-    let R = read (c .before .before .before .before .before .before .before .before .before .before .before .before .before .before .before .before .before .before .before .before) in
+returns-2 c = let b = c .before .before .before .before .before .before .before .before .before .before .before .before .before .before .before .before .before .before .before .before .before .before .before .before .args .book .now in let o = c .before .before .before .before .before .before .before .before .before .before .before .before .before .before .before .before .before .before .before .before .before .before .before .before .args .out .now in
+    let R = read (c .before .before .before .before .before .before .before .before .before .before .before .before .before .before .before .before .before .before .before) in
     reply-refused (room-short (checkBook b) (length (listBytes b)) (length o) (R .fine) (omega (arith, list-long R (c .before .before .before .before .number-all .ensures), c .before .before .if1 .taken))) (rotationCount b) (length (listBytes b)) (listBytes b) o (c .reply2 .ensures ∙ ap (λ (v : Verdict). counting v 0) (c .before .refuse .ensures))
 
 slice-aggregate-copy : tie.Need-slice-aggregate-copy
 slice-aggregate-copy c = sym (c .before .before .before .number-all .ensures .long)
 
 copy-requires : tie.Need-copy-requires
-copy-requires c κs = let R = read (c .before .before .before .before .before .before .before .before .before .before .before .before .before .before .before .before .before .before .before .before) in
+copy-requires c κs = let R = read (c .before .before .before .before .before .before .before .before .before .before .before .before .before .before .before .before .before .before .before) in
     ((list-within R (c .before .before .before .before .number-all .ensures), omega (arith, c .before .before .if1 .left)), list-small R (c .before .before .before .before .number-all .ensures))
 
 same-length : tie.Need-same-length
 same-length c = search needs
 
 returns-3 : tie.Need-returns-3
-returns-3 c = let b = c .before .before .before .before .before .before .before .before .before .before .before .before .before .before .before .before .before .before .before .before .before .before .before .before .before .before .before .before .args .book .now in let o = c .before .before .before .before .before .before .before .before .before .before .before .before .before .before .before .before .before .before .before .before .before .before .before .before .before .before .before .before .args .out .now in
-    let R = read (c .before .before .before .before .before .before .before .before .before .before .before .before .before .before .before .before .before .before .before .before .before .before .before) in
+returns-3 c = let b = c .before .before .before .before .before .before .before .before .before .before .before .before .before .before .before .before .before .before .before .before .before .before .before .before .before .before .before .args .book .now in let o = c .before .before .before .before .before .before .before .before .before .before .before .before .before .before .before .before .before .before .before .before .before .before .before .before .before .before .before .args .out .now in
+    let R = read (c .before .before .before .before .before .before .before .before .before .before .before .before .before .before .before .before .before .before .before .before .before .before) in
     reply-fine (room-fits (checkBook b) (length (listBytes b)) (length o) (R .fine) (omega (arith, list-long R (c .before .before .before .before .before .before .before .number-all .ensures), c .before .before .before .before .before .if1 .left))) (book-numbered R (c .before .before .before .before .before .before .before .number-all .ensures) .count) (length (listBytes b)) (listBytes b) o (c .before .before .copy .last .1 .1 .0) (written c)
 
 pub list-spec : {M : Type 1} → statement M
@@ -84,7 +81,6 @@ list-spec =
     enum-told-2
     reply-requires
     returns
-    man-optimal-places-requires
     slice-aggregate-number-all
     number-all-requires
     refuse-requires

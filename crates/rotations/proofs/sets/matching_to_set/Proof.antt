@@ -17,20 +17,20 @@ use Rattle.rotations.specs.Sets.{matchingSet}
 use Rattle.rotations.proofs.sets.matching_to_set.Statement.{statement}
 use Rattle.rotations.proofs.sets.matching_to_set.Tie as tie
 
-judged : (c : tie.After-judge) → JudgedIs (c .before .before .before .before .before .args .book .now) (c .before .before .before .before .before .args .matching .now) (c .judge .result)
-judged c = c .judge .ensures _ (c .before .load .ensures)
+judged : (c : tie.After-judge) → JudgedIs (c .before .before .before .before .before .before .before .before .before .before .before .before .before .before .before .before .before .before .args .book .now) (c .before .before .before .before .before .before .before .before .before .before .before .before .before .before .before .before .before .before .args .matching .now) (c .judge .result)
+judged c = c .judge .ensures _ (c .before .before .before .before .before .before .before .before .before .before .before .before .before .before .load .ensures)
 
-passed : (c : tie.After-enum-told) → checkMatching (c .before .before .before .before .before .before .before .args .book .now) (c .before .before .before .before .before .before .before .args .matching .now) ≡ fine
+passed : (c : tie.After-enum-told) → checkMatching (c .before .before .before .before .before .before .before .before .before .before .before .before .before .before .before .before .before .before .before .before .args .book .now) (c .before .before .before .before .before .before .before .before .before .before .before .before .before .before .before .before .before .before .before .before .args .matching .now) ≡ fine
 passed c = sym (judged (c .before .before) .checked) ∙ ap verdictOf (c .enum-told .given .1)
 
-count : (c : tie.After-number-all) → c .number-all .result .count ≡ rotationCount (c .before .before .before .before .before .before .before .before .before .before .before .before .before .before .before .before .before .before .before .before .before .before .before .args .book .now)
-count c = judged-count (c .before .before .before .before .before .before .before .before .before .before .before .before .before .before .before .before .before .before .before .load .ensures) (judged (c .before .before .before .before .before .before .before .before .before .before .before .before .before .before .before .before .before .before)) (passed (c .before .before .before .before .before .before .before .before .before .before .before .before .before .before .before .before)) (c .number-all .ensures)
+count : (c : tie.After-number-all) → c .number-all .result .count ≡ rotationCount (c .before .before .before .before .before .before .before .before .before .before .before .before .before .before .before .before .before .before .before .before .before .before .before .before .before .before .before .before .before .before .before .before .before .before .before .args .book .now)
+count c = judged-count (c .before .before .before .before .before .before .before .before .before .before .before .before .before .before .before .before .before .before .before .before .before .before .before .before .before .before .before .before .before .before .before .load .ensures) (judged (c .before .before .before .before .before .before .before .before .before .before .before .before .before .before .before .before .before)) (passed (c .before .before .before .before .before .before .before .before .before .before .before .before .before .before .before)) (c .number-all .ensures)
 
 load-requires : tie.Need-load-requires
 load-requires c κs = search needs
 
 judge-requires : tie.Need-judge-requires
-judge-requires c κs = record { book = _; recorded = c .load .ensures }
+judge-requires c κs = record { book = _; recorded = c .before .before .before .before .before .before .before .before .before .before .before .before .before .load .ensures }
 
 enum-told : tie.Need-enum-told
 enum-told c = search needs
@@ -43,20 +43,17 @@ reply-requires c κs = search needs
 
 returns : tie.Need-returns
 returns c =
-    let b = c .before .before .before .before .before .before .before .before .args .book .now in
-    let m = c .before .before .before .before .before .before .before .before .args .matching .now in
-    let o = c .before .before .before .before .before .before .before .before .args .out .now in
+    let b = c .before .before .before .before .before .before .before .before .before .before .before .before .before .before .before .before .before .before .before .before .before .args .book .now in
+    let m = c .before .before .before .before .before .before .before .before .before .before .before .before .before .before .before .before .before .before .before .before .before .args .matching .now in
+    let o = c .before .before .before .before .before .before .before .before .before .before .before .before .before .before .before .before .before .before .before .before .before .args .out .now in
     let e = ap verdictOf (c .before .enum-told2 .given .1) in
     reply-refused (room-refused (checkMatching b m) (rotationCount b) (length o) (sym (judged (c .before .before .before) .checked) ∙ e)) (rotationCount b) (rotationCount b) (matchingSet b m) o (c .reply .ensures ∙ ap (λ (v : Verdict). counting v 0) e)
-
-man-optimal-places-requires : tie.Need-man-optimal-places-requires
-man-optimal-places-requires c κs = read-usable (judged-read (c .before .before .before .load .ensures) (judged (c .before .before)) (passed c))
 
 slice-aggregate-number-all : tie.Need-slice-aggregate-number-all
 slice-aggregate-number-all c = search needs
 
 number-all-requires : tie.Need-number-all-requires
-number-all-requires c κs = (read-usable (judged-read (c .before .before .before .before .before .before .before .before .before .before .before .before .before .before .before .before .before .before .load .ensures) (judged (c .before .before .before .before .before .before .before .before .before .before .before .before .before .before .before .before .before)) (passed (c .before .before .before .before .before .before .before .before .before .before .before .before .before .before .before))), (c .before .before .before .before .before .before .before .before .before .before .before .before .before .before .man-optimal-places .ensures, length-replicate {A = ℕ} listRoom 0))
+number-all-requires c κs = (read-usable (judged-read (c .before .before .before .before .before .before .before .before .before .before .before .before .before .before .before .before .before .before .before .before .before .before .before .before .before .before .before .before .before .before .load .ensures) (judged (c .before .before .before .before .before .before .before .before .before .before .before .before .before .before .before .before)) (passed (c .before .before .before .before .before .before .before .before .before .before .before .before .before .before))), length-replicate {A = ℕ} listRoom 0)
 
 refuse-requires : tie.Need-refuse-requires
 refuse-requires c κs = search needs
@@ -66,19 +63,19 @@ reply-requires-2 c κs = search needs
 
 returns-2 : tie.Need-returns-2
 returns-2 c =
-    let b = c .before .before .before .before .before .before .before .before .before .before .before .before .before .before .before .before .before .before .before .before .before .before .before .before .before .before .before .args .book .now in
-    let m = c .before .before .before .before .before .before .before .before .before .before .before .before .before .before .before .before .before .before .before .before .before .before .before .before .before .before .before .args .matching .now in
-    let o = c .before .before .before .before .before .before .before .before .before .before .before .before .before .before .before .before .before .before .before .before .before .before .before .before .before .before .before .args .out .now in
-    reply-refused (room-short (checkMatching b m) (rotationCount b) (length o) (passed (c .before .before .before .before .before .before .before .before .before .before .before .before .before .before .before .before .before .before .before .before)) (omega (arith, count (c .before .before .before .before), c .before .before .if1 .taken))) (rotationCount b) (rotationCount b) (matchingSet b m) o (c .reply2 .ensures ∙ ap (λ (v : Verdict). counting v 0) (c .before .refuse .ensures))
+    let b = c .before .before .before .before .before .before .before .before .before .before .before .before .before .before .before .before .before .before .before .before .before .before .before .before .before .before .before .before .before .before .before .before .before .before .before .before .before .before .before .args .book .now in
+    let m = c .before .before .before .before .before .before .before .before .before .before .before .before .before .before .before .before .before .before .before .before .before .before .before .before .before .before .before .before .before .before .before .before .before .before .before .before .before .before .before .args .matching .now in
+    let o = c .before .before .before .before .before .before .before .before .before .before .before .before .before .before .before .before .before .before .before .before .before .before .before .before .before .before .before .before .before .before .before .before .before .before .before .before .before .before .before .args .out .now in
+    reply-refused (room-short (checkMatching b m) (rotationCount b) (length o) (passed (c .before .before .before .before .before .before .before .before .before .before .before .before .before .before .before .before .before .before .before)) (omega (arith, count (c .before .before .before .before), c .before .before .if1 .taken))) (rotationCount b) (rotationCount b) (matchingSet b m) o (c .reply2 .ensures ∙ ap (λ (v : Verdict). counting v 0) (c .before .refuse .ensures))
 
 slice-aggregate-write-set : tie.Need-slice-aggregate-write-set
 slice-aggregate-write-set c = sym (c .before .before .before .before .before .before .number-all .ensures .long)
 
 write-set-requires : tie.Need-write-set-requires
 write-set-requires c κs =
-    let R = c .before .before .before .before .before .before .before .before .before .before .before .before .before .before .before .before .before .before .before .before .before .before .before .before .before .before .before .before .before .load .ensures in
-    let J = judged (c .before .before .before .before .before .before .before .before .before .before .before .before .before .before .before .before .before .before .before .before .before .before .before .before .before .before .before .before) in
-    let f = passed (c .before .before .before .before .before .before .before .before .before .before .before .before .before .before .before .before .before .before .before .before .before .before .before .before .before .before) in
+    let R = c .before .before .before .before .before .before .before .before .before .before .before .before .before .before .before .before .before .before .before .before .before .before .before .before .before .before .before .before .before .before .before .before .before .before .before .before .before .before .before .before .before .load .ensures in
+    let J = judged (c .before .before .before .before .before .before .before .before .before .before .before .before .before .before .before .before .before .before .before .before .before .before .before .before .before .before .before) in
+    let f = passed (c .before .before .before .before .before .before .before .before .before .before .before .before .before .before .before .before .before .before .before .before .before .before .before .before .before) in
     let h = judged-room R J f in
     (rw (count (c .before .before .before .before .before .before .before .before .before .before)) (book-readable (judged-read R J f) (c .before .before .before .before .before .before .before .before .before .before .number-all .ensures)), (h .0, h .1, omega (arith, c .before .before .before .before .before .before .before .before .if1 .left)))
 
@@ -87,12 +84,12 @@ same-length c = search needs
 
 returns-3 : tie.Need-returns-3
 returns-3 c =
-    let b = c .before .before .before .before .before .before .before .before .before .before .before .before .before .before .before .before .before .before .before .before .before .before .before .before .before .before .before .before .before .before .before .before .before .before .before .before .args .book .now in
-    let m = c .before .before .before .before .before .before .before .before .before .before .before .before .before .before .before .before .before .before .before .before .before .before .before .before .before .before .before .before .before .before .before .before .before .before .before .before .args .matching .now in
-    let o = c .before .before .before .before .before .before .before .before .before .before .before .before .before .before .before .before .before .before .before .before .before .before .before .before .before .before .before .before .before .before .before .before .before .before .before .before .args .out .now in
-    let R = c .before .before .before .before .before .before .before .before .before .before .before .before .before .before .before .before .before .before .before .before .before .before .before .before .before .before .before .before .before .before .before .before .load .ensures in
-    let J = judged (c .before .before .before .before .before .before .before .before .before .before .before .before .before .before .before .before .before .before .before .before .before .before .before .before .before .before .before .before .before .before .before) in
-    let f = passed (c .before .before .before .before .before .before .before .before .before .before .before .before .before .before .before .before .before .before .before .before .before .before .before .before .before .before .before .before .before) in
+    let b = c .before .before .before .before .before .before .before .before .before .before .before .before .before .before .before .before .before .before .before .before .before .before .before .before .before .before .before .before .before .before .before .before .before .before .before .before .before .before .before .before .before .before .before .before .before .before .before .before .args .book .now in
+    let m = c .before .before .before .before .before .before .before .before .before .before .before .before .before .before .before .before .before .before .before .before .before .before .before .before .before .before .before .before .before .before .before .before .before .before .before .before .before .before .before .before .before .before .before .before .before .before .before .before .args .matching .now in
+    let o = c .before .before .before .before .before .before .before .before .before .before .before .before .before .before .before .before .before .before .before .before .before .before .before .before .before .before .before .before .before .before .before .before .before .before .before .before .before .before .before .before .before .before .before .before .before .before .before .before .args .out .now in
+    let R = c .before .before .before .before .before .before .before .before .before .before .before .before .before .before .before .before .before .before .before .before .before .before .before .before .before .before .before .before .before .before .before .before .before .before .before .before .before .before .before .before .before .before .before .before .load .ensures in
+    let J = judged (c .before .before .before .before .before .before .before .before .before .before .before .before .before .before .before .before .before .before .before .before .before .before .before .before .before .before .before .before .before .before) in
+    let f = passed (c .before .before .before .before .before .before .before .before .before .before .before .before .before .before .before .before .before .before .before .before .before .before .before .before .before .before .before .before) in
     reply-fine (room-fits (checkMatching b m) (rotationCount b) (length o) f (omega (arith, count (c .before .before .before .before .before .before .before .before .before .before .before .before .before), c .before .before .before .before .before .before .before .before .before .before .before .if1 .left))) (count (c .before .before .before .before .before .before .before .before .before .before .before .before .before)) (rotationCount b) (matchingSet b m) o _ (judged-set R J f (c .before .before .before .before .before .before .before .before .before .before .before .before .before .number-all .ensures) o _ (c .before .before .write-set .ensures))
 
 pub matching-to-set-spec : {M : Type 1} → statement M
@@ -105,7 +102,6 @@ matching-to-set-spec =
     enum-told-2
     reply-requires
     returns
-    man-optimal-places-requires
     slice-aggregate-number-all
     number-all-requires
     refuse-requires

@@ -5,7 +5,10 @@ use mathlib.Core.List.{List, _++_}
 use Prim.Native.Nat.{ℕ}
 use native.Mathlib.Omega.{arith}
 use lib.ListN.{length, length-append}
+use denote.Ref.{now}
 use borrow.Author.Needs.{needs}
+use Rattle.instance.specs.declared.record.Instance.{Instance}
+use Rattle.instance.specs.Record.{recordOf}
 use Rattle.laws.specs.Values.{vec}
 use Rattle.repair.specs.Laws.Ends.{given-extremes}
 use Rattle.sheet_lines.specs.Line.{topLine, pairLines}
@@ -16,10 +19,10 @@ use Rattle.sheet_lines.proofs.answers.put_answers.Statement.{statement}
 use Rattle.sheet_lines.proofs.answers.put_answers.Tie as tie
 
 woman-optimal-places-requires : tie.Need-woman-optimal-places-requires
-woman-optimal-places-requires c κs = search needs
+woman-optimal-places-requires c κs = let s = c .before .before .before .before .before .before .before .before .before .before in (s .pre .0 .0 .women, s .pre .0 .0 .few)
 
 man-optimal-places-requires : tie.Need-man-optimal-places-requires
-man-optimal-places-requires c κs = search needs
+man-optimal-places-requires c κs = let s = c .before .before .before .before .before .before .before .before .before .before .before in (s .pre .0 .0 .men, s .pre .0 .0 .few)
 
 slice-aggregate-fill-answers : tie.Need-slice-aggregate-fill-answers
 slice-aggregate-fill-answers c = search needs
@@ -29,8 +32,8 @@ slice-aggregate-fill-answers-2 c = search needs
 
 fill-answers-requires : tie.Need-fill-answers-requires
 fill-answers-requires c κs =
-    let d = c .before .before .before .before .before .before .before .before .before .before .before .before .before .before .before .before .before in
-    let s = d .before .before .before .before .before .before in
+    let d = c .before .before .before .before in
+    let s = d .before .before .before .before .before .before .before .before .before .before .before .before in
     (given-extremes (s .pre .0 .0) (s .pre .0 .1) (d .before .woman-optimal-places .ensures) (d .man-optimal-places .ensures), (omega (arith, s .pre .0 .1 .few), omega (arith, s .pre .0 .1 .few)))
 
 slice-aggregate-grade-of : tie.Need-slice-aggregate-grade-of
@@ -40,22 +43,26 @@ grade-of-requires : tie.Need-grade-of-requires
 grade-of-requires c κs = search needs
 
 count-requires : tie.Need-count-requires
-count-requires c κs = let s = c .before .before .before .before .before .before .before .before .before .before .before .before .before .before .before .before .before .before .before .before .before .before .before .before .before .before .before .before in s .pre .0 .0
+count-requires c κs = let s = c .before .before .before .before .before .before .before .before .before .before .before .before .before .before .before .before .before .before .before .before .before in s .pre .0 .0
 
 -- where the function is entered
 abbrev start : tie.After-count → tie.Start
-start c = c .before .before .before .before .before .before .before .before .before .before .before .before .before .before .before .before .before .before .before .before .before .before .before .before .before .before .before .before .before
+start c = c .before .before .before .before .before .before .before .before .before .before .before .before .before .before .before .before .before .before .before .before .before .before
+
+-- the record whose tables are lent
+abbrev lent : tie.After-count → Instance
+lent c = let a = start c .args in recordOf (a .n) (now (a .mlens)) (now (a .mlists)) (now (a .mranks)) (now (a .wlens)) (now (a .wlists)) (now (a .wranks))
 
 -- line one, and the lines of the pairs
 top : tie.After-count → List ℕ
-top c = topLine (start c .args .t1 .instance .n) (c .count .result) (c .before .grade-of .result)
+top c = topLine (start c .args .n) (c .count .result) (c .before .grade-of .result)
 
 pairs : tie.After-count → List ℕ
 pairs c =
-    pairLines (vec (start c .args .matching .now)) (vec (c .before .before .before .before .before .fill-answers .last .1 .1 .1 .1 .1 .1 .1 .1 .1 .1 .1 .0)) (vec (c .before .before .before .before .before .fill-answers .last .1 .1 .1 .1 .1 .1 .1 .1 .1 .1 .1 .1 .0)) (start c .args .t1 .instance .n)
+    pairLines (vec (start c .args .matching .now)) (vec (c .before .before .before .before .before .fill-answers .last .1 .1 .1 .1 .1 .1 .1 .1 .1 .1 .1 .0)) (vec (c .before .before .before .before .before .fill-answers .last .1 .1 .1 .1 .1 .1 .1 .1 .1 .1 .1 .1 .0)) (start c .args .n)
 
 -- are the sheet
-whole : (c : tie.After-count) → top c ++ pairs c ≡ sheetOver (start c .args .t1) (start c .args .judged) (start c .args .matching .now)
+whole : (c : tie.After-count) → top c ++ pairs c ≡ sheetOver (lent c) (start c .args .places) (start c .args .matching .now)
 unfolding top pairs
 whole c = sheet-in (c .before .before .before .before .before .fill-answers .ensures) (start c .args .matching .now) (c .count .ensures) (c .before .grade-of .ensures)
 

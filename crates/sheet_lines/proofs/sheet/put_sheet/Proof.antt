@@ -37,7 +37,7 @@ part-judge-end : tie.Need-part-judge-end
 part-judge-end c = search needs
 
 judge-requires : tie.Need-judge-requires
-judge-requires c κs = record { book = _; recorded = c .before .load .ensures }
+judge-requires c κs = record { book = _; recorded = c .before .before .before .before .before .before .before .before .before .before .before .before .before .before .load .ensures }
 
 enum-told : tie.Need-enum-told
 enum-told c = search needs
@@ -51,51 +51,51 @@ put-refused-requires c κs = search needs
 same-length : tie.Need-same-length
 same-length c = search needs
 
+-- what was read, and where its book ends
+abbrev read : tie.After-judge → List ℕ
+read c = c .before .before .before .before .before .before .before .before .before .before .before .before .before .before .before .before .before .before .before .before .args .input .now
+
+abbrev end : tie.After-judge → ℕ
+end c = c .before .before .before .before .before .before .before .before .before .before .before .before .before .before .before .before .before .book-end .result
+
 returns : tie.Need-returns
 returns c =
     let d = c .before .before .before .before .before .before in
-    rw (sheet-refusal (d .before .before .before .before .before .before .before .args .input .now) (d .before .before .before .before .book-end .ensures) (d .judge .ensures _ (d .before .before .load .ensures) .checked) (c .before .before .before .before .enum-told2 .given .1))
+    rw (sheet-refusal (read d) (d .before .before .before .before .before .before .before .before .before .before .before .before .before .before .before .before .before .book-end .ensures) (d .judge .ensures _ (d .before .before .before .before .before .before .before .before .before .before .before .before .before .before .before .load .ensures) .checked) (c .before .before .before .before .enum-told2 .given .1))
     (c .before .before .put-refused .ensures)
-
--- what was read, and where its book ends
-abbrev read : tie.After-judge → List ℕ
-read c = c .before .before .before .before .before .before .before .args .input .now
-
-abbrev end : tie.After-judge → ℕ
-end c = c .before .before .before .before .book-end .result
 
 -- nothing is refused where the check answered so
 passed : (c : tie.After-enum-told) → checkMatching (take (end (c .before .before)) (read (c .before .before))) (rest (read (c .before .before)) (end (c .before .before))) ≡ fine
-passed c = let d = c .before .before in sym (d .judge .ensures _ (d .before .before .load .ensures) .checked) ∙ ap verdictOf (c .enum-told .given .1)
+passed c = let d = c .before .before in sym (d .judge .ensures _ (d .before .before .before .before .before .before .before .before .before .before .before .before .before .before .before .load .ensures) .checked) ∙ ap verdictOf (c .enum-told .given .1)
 
 -- so the sheet over what the check leaves is the sheet
-whole : (c : tie.After-enum-told) → sheetOver (c .before .before .before .before .load .result) (c .before .before .judge .result) (rest (read (c .before .before)) (end (c .before .before))) ≡ sheetOf (read (c .before .before))
+whole : (c : tie.After-enum-told) → sheetOver (c .before .before .before .before .before .before .before .before .before .before .before .before .before .before .before .before .before .load .result .instance) (c .before .before .judge .result .places) (rest (read (c .before .before)) (end (c .before .before))) ≡ sheetOf (read (c .before .before))
 whole c =
     let d = c .before .before in
-    let J = book-judged (d .before .before .load .ensures) (d .judge .ensures) in
-    sheet-over J (passed c) (totals J (passed c)) ∙ sym (sheet-answers (read d) (d .before .before .before .before .book-end .ensures) (passed c))
+    let J = book-judged (d .before .before .before .before .before .before .before .before .before .before .before .before .before .before .before .load .ensures) (d .judge .ensures) in
+    sheet-over J (passed c) (totals J (passed c)) ∙ sym (sheet-answers (read d) (d .before .before .before .before .before .before .before .before .before .before .before .before .before .before .before .before .before .book-end .ensures) (passed c))
 
 sub-put-answers : tie.Need-sub-put-answers
-sub-put-answers c = search needs
+sub-put-answers c = let d = c .before .before .before .before .before .before .before .before .before .before .before .before .before .before .before .before in omega (arith, end-within (read d) (d .before .before .before .before .before .before .before .before .before .before .before .before .before .before .before .before .before .book-end .ensures))
 
 part-put-answers-start : tie.Need-part-put-answers-start
-part-put-answers-start c = search needs
+part-put-answers-start c = let d = c .before .before .before .before .before .before .before .before .before .before .before .before .before .before .before .before in omega (arith, end-within (read d) (d .before .before .before .before .before .before .before .before .before .before .before .before .before .before .before .before .before .book-end .ensures))
 
 part-put-answers-end : tie.Need-part-put-answers-end
 part-put-answers-end c = search needs
 
 put-answers-requires : tie.Need-put-answers-requires
 put-answers-requires c κs =
-    let d = c .before .before .before .before in
-    let J = book-judged (d .before .before .load .ensures) (d .judge .ensures) in
-    let f = passed (c .before .before) in
-    ((record-usable J f, judged-given J f), (matching-long J f, omega (arith, ap length (whole (c .before .before)), sheet-short (read d))))
+    let d = c .before .before .before .before .before .before .before .before .before .before .before .before .before .before .before .before .before .before in
+    let J = book-judged (d .before .before .before .before .before .before .before .before .before .before .before .before .before .before .before .load .ensures) (d .judge .ensures) in
+    let f = passed (c .before .before .before .before .before .before .before .before .before .before .before .before .before .before .before .before) in
+    ((record-usable J f, judged-given J f), (matching-long J f, omega (arith, d .before .before .before .before .before .before .before .before .before .before .before .before .before .before .before .before .before .before .before .before .pre, ap length (whole (c .before .before .before .before .before .before .before .before .before .before .before .before .before .before .before .before)), sheet-short (read d))))
 
 same-length-2 : tie.Need-same-length-2
 same-length-2 c = search needs
 
 returns-2 : tie.Need-returns-2
-returns-2 c = rw (← whole (c .before .before .before .before .before)) (c .before .before .put-answers .ensures)
+returns-2 c = rw (← whole (c .before .before .before .before .before .before .before .before .before .before .before .before .before .before .before .before .before .before .before)) (c .before .before .put-answers .ensures)
 
 pub put-sheet-spec : {M : Type 1} → statement M
 put-sheet-spec =
