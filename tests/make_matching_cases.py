@@ -8,49 +8,27 @@ The books are built from ranked lists by document 01, section 'The book'. The ex
 document 01, section 'Checked by hand', those of small books and the blocking pairs worked out by hand, and the refusals of its table.
 No code of the library is used.
 """
-import pathlib
 import sys
 
-HERE = pathlib.Path(__file__).resolve().parent.parent / "crates" / "matching_cases"
+sys.dont_write_bytecode = True
+from cases import TABLE_1 as TABLE_1_LISTS, book_of, put, store
 
 STUDENT_BEST, MENTOR_BEST, CHECK = 0, 1, 2
 
 
-def book(text):
-    """A book from its lists, students and then mentors, each a word of digits."""
-    lists = text.split()
-    n = len(lists) // 2
-    out = [1, n]
-    for k in range(2 * n):
-        offset = 2 + 8 * n + n * k
-        out += [offset % 256, offset // 256, n % 256, n // 256]
-    return out + [int(c) for c in "".join(lists)]
-
-
-def put(b, changes):
-    """The book with other bytes at some places."""
-    b = list(b)
-    for place, byte in changes.items():
-        b[place] = byte
-    return b
-
-
 NOBODY = [1, 0]
-ONE = book("0 0")
+ONE = book_of("0 0")
 # Document 01: students 0 1 and 1 0, mentors 1 0 and 0 1
-TWO = book("01 10 10 01")
+TWO = book_of("01 10 10 01")
 # Document 01: students 0 1 and 0 1, mentors 0 1 and 0 1
-SAME = book("01 01 01 01")
+SAME = book_of("01 01 01 01")
 # Table 1 of document 000
-TABLE_1 = book("""
-0652413 6145023 6031542 3201465 1203456 6103542 2506431
-2164530 0435261 2504316 6123405 4605312 3126540 4621305
-""")
+TABLE_1 = book_of(TABLE_1_LISTS)
 
 # Student 2 and mentor 1 rank each other first
-THREE = book("012 120 120 012 210 120")
+THREE = book_of("012 120 120 012 210 120")
 # Mentors 1 and 2 both rank student 0 first, and he ranks 2 above 1 above 0
-CHOICE = book("210 012 012 012 012 021")
+CHOICE = book_of("210 012 012 012 012 021")
 
 # (what is tried, call, bytes of the book, room, expected line)
 EXTREMES = [
@@ -136,16 +114,7 @@ def main():
     stdin = b"".join(case(call, room, b) for _, call, b, room, _ in EXTREMES)
     stdin += b"".join(case(CHECK, len(m), b, map(int, m)) for _, b, m, _ in CHECKS)
     lines = [c[-1] for c in EXTREMES + CHECKS]
-    stdout = "".join(line + "\n" for line in lines).encode()
-    if len(stdin) > 65536:
-        sys.exit(f"{len(stdin)} bytes of input: the program takes 65536")
-    files = {HERE / "stdin": stdin, HERE / "stdout": stdout}
-    if sys.argv[1:] == ["--check"]:
-        bad = [str(p) for p, text in files.items() if p.read_bytes() != text]
-        sys.exit(f"not as written by this script: {', '.join(bad)}" if bad else 0)
-    for path, text in files.items():
-        path.write_bytes(text)
-    print(f"{len(lines)} cases, {len(stdin)} bytes of input")
+    store("matching_cases", len(lines), stdin, "".join(line + "\n" for line in lines))
 
 
 if __name__ == "__main__":

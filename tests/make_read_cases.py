@@ -7,45 +7,18 @@
 The books are built byte by byte from document 01, section 'The book'. The expected number and place of each case
 are literals, from reading the table of refusals and its order of checks. No code of the library is used.
 """
-import pathlib
 import sys
 
-HERE = pathlib.Path(__file__).resolve().parent.parent / "crates" / "read_cases"
-
-# Table 1 of document 000: students (men), then mentors (women).
-TABLE_1 = """
-0652413 6145023 6031542 3201465 1203456 6103542 2506431
-2164530 0435261 2504316 6123405 4605312 3126540 4621305
-"""
-
-
-def table_1():
-    """156 bytes: directory pair k at byte 2 + 4k, list k at byte 58 + 7k."""
-    return book(7, [int(c) for c in TABLE_1 if c.isdigit()])
-
-
-def book(n, entries):
-    out = [1, n]
-    for k in range(2 * n):
-        offset = 2 + 8 * n + n * k
-        out += [offset % 256, offset // 256, n % 256, n // 256]
-    return out + entries
-
+sys.dont_write_bytecode = True
+from cases import TABLE_1, book, book_of, put, store
 
 def round_robin(n):
     """A book in which list k starts with k mod n and goes round."""
     return book(n, [(k + j) % n for k in range(2 * n) for j in range(n)])
 
 
-def put(b, changes):
-    """The book with other bytes at some places."""
-    b = list(b)
-    for place, byte in changes.items():
-        b[place] = byte
-    return b
-
-
-T = table_1()
+# 156 bytes: directory pair k at byte 2 + 4k, list k at byte 58 + 7k
+T = book_of(TABLE_1)
 R = round_robin(64)
 
 # (what is tried, bytes, number, place)
@@ -121,23 +94,10 @@ CASES = [
 ]
 
 
-def store(folder, cases, stdin, stdout):
-    """Writes a program's input and expected output, or with --check says whether they are so."""
-    if len(stdin) > 65536:
-        sys.exit(f"{len(stdin)} bytes of input: the program takes 65536")
-    files = {folder / "stdin": stdin, folder / "stdout": stdout.encode()}
-    if sys.argv[1:] == ["--check"]:
-        bad = [str(p) for p, text in files.items() if p.read_bytes() != text]
-        sys.exit(f"not as written by this script: {', '.join(bad)}" if bad else 0)
-    for path, text in files.items():
-        path.write_bytes(text)
-    print(f"{len(cases)} cases, {len(stdin)} bytes of input")
-
-
 def main():
     stdin = b"".join(bytes([len(b) % 256, len(b) // 256] + b) for _, b, _, _ in CASES)
     stdout = "".join(f"{number} {place}\n" for _, _, number, place in CASES)
-    store(HERE, CASES, stdin, stdout)
+    store("read_cases", len(CASES), stdin, stdout)
 
 
 if __name__ == "__main__":

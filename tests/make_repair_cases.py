@@ -9,52 +9,25 @@ matching 4 5 6 3 1 2 0 they are those of its Tables 2 and 3: which repair, its d
 the grade is the largest b of Table 3. For the two-by-two book and the empty and the one-student book they are those of document 01, section 'Checked
 by hand', with the gains read off the lists. For the books FOUR and FIVE they were worked out by listing all matchings. No code of the library is used.
 """
-import pathlib
 import sys
 
-HERE = pathlib.Path(__file__).resolve().parent.parent / "crates" / "repair_cases"
-
-
-def book(text):
-    """A book from its lists, students and then mentors, each a word of digits."""
-    lists = text.split()
-    n = len(lists) // 2
-    out = [1, n]
-    for k in range(2 * n):
-        offset = 2 + 8 * n + n * k
-        out += [offset % 256, offset // 256, n % 256, n // 256]
-    return out + [int(c) for c in "".join(lists)]
-
-
-def put(b, changes):
-    """The book with other bytes at some places."""
-    b = list(b)
-    for place, byte in changes.items():
-        b[place] = byte
-    return b
-
-
-def digits(text):
-    """A matching or a request from its digits."""
-    return [int(c) for c in text]
+sys.dont_write_bytecode = True
+from cases import TABLE_1 as TABLE_1_LISTS, book_of, digits, put, store
 
 
 NOBODY = [1, 0]
-ONE = book("0 0")
+ONE = book_of("0 0")
 # Document 01: students 0 1 and 1 0, mentors 1 0 and 0 1
-TWO = book("01 10 10 01")
+TWO = book_of("01 10 10 01")
 # Document 01: students 0 1 and 0 1, mentors 0 1 and 0 1
-SAME = book("01 01 01 01")
+SAME = book_of("01 01 01 01")
 # Table 1 of document 000
-TABLE_1 = book("""
-0652413 6145023 6031542 3201465 1203456 6103542 2506431
-2164530 0435261 2504316 6123405 4605312 3126540 4621305
-""")
+TABLE_1 = book_of(TABLE_1_LISTS)
 # For the matching 0321 student 1 has a repair up that moves three, 0213, and one down that moves two, 3021
-FOUR = book("0312 2301 1203 3102 1230 3021 2031 0132")
+FOUR = book_of("0312 2301 1203 3102 1230 3021 2031 0132")
 # For the matching 14302 student 2 has a repair up that moves five, 32014; the matching 04213, in which students 0 and 3 are better off and 2 and 4
 # worse, moves four; the repair down, 14203, moves two
-FIVE = book("43021 20431 03214 10432 42310 34012 02143 23410 14230 14320")
+FIVE = book_of("43021 20431 03214 10432 42310 34012 02143 23410 14230 14320")
 
 M5 = "4563120"
 
@@ -156,16 +129,7 @@ def main():
         bytes([call, room, gains, len(q), len(m), len(b) % 256, len(b) // 256] + q + m + b)
         for _, call, b, m, q, room, gains, _ in CASES
     )
-    stdout = "".join(case[-1] + "\n" for case in CASES).encode()
-    if len(stdin) > 65536:
-        sys.exit(f"{len(stdin)} bytes of input: the program takes 65536")
-    files = {HERE / "stdin": stdin, HERE / "stdout": stdout}
-    if sys.argv[1:] == ["--check"]:
-        bad = [str(p) for p, text in files.items() if p.read_bytes() != text]
-        sys.exit(f"not as written by this script: {', '.join(bad)}" if bad else 0)
-    for path, text in files.items():
-        path.write_bytes(text)
-    print(f"{len(CASES)} cases, {len(stdin)} bytes of input")
+    store("repair_cases", len(CASES), stdin, "".join(case[-1] + "\n" for case in CASES))
 
 
 if __name__ == "__main__":

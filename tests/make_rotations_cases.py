@@ -10,35 +10,12 @@ precedence, the eleven matchings of the closed sets and the sum of the bytes of 
 and the refusals of document 01's table. No code of the library is used.
 """
 import itertools
-import pathlib
 import sys
 
-HERE = pathlib.Path(__file__).resolve().parent.parent / "crates" / "rotations_cases"
+sys.dont_write_bytecode = True
+from cases import TABLE_1 as TABLE_1_LISTS, book, book_of, put, store
 
 LIST, COUNT, PRECEDES, TO_MATCHING, TO_SET = 0, 1, 2, 3, 4
-
-
-def book(lists):
-    """A book from its lists, students and then mentors."""
-    n = len(lists) // 2
-    out = [1, n]
-    for k in range(2 * n):
-        offset = 2 + 8 * n + n * k
-        out += [offset % 256, offset // 256, n % 256, n // 256]
-    return out + [entry for entries in lists for entry in entries]
-
-
-def digits(text):
-    """Lists, each a word of digits."""
-    return [[int(c) for c in word] for word in text.split()]
-
-
-def put(b, changes):
-    """The book with other bytes at some places."""
-    b = list(b)
-    for place, byte in changes.items():
-        b[place] = byte
-    return b
 
 
 def words(numbers):
@@ -46,20 +23,17 @@ def words(numbers):
 
 
 NOBODY = [1, 0]
-ONE = book(digits("0 0"))
+ONE = book_of("0 0")
 # Document 01: students 0 1 and 1 0, mentors 1 0 and 0 1
-TWO = book(digits("01 10 10 01"))
+TWO = book_of("01 10 10 01")
 # Document 01: students 0 1 and 0 1, mentors 0 1 and 0 1
-SAME = book(digits("01 01 01 01"))
+SAME = book_of("01 01 01 01")
 # Two pairs of students who exchange their mentors, apart from each other: two rotations, neither before the other
-APART = book(digits("0123 1032 2301 3210 1023 0132 3210 2301"))
+APART = book_of("0123 1032 2301 3210 1023 0132 3210 2301")
 # Table 1 of document 000
-TABLE_1 = book(digits("""
-0652413 6145023 6031542 3201465 1203456 6103542 2506431
-2164530 0435261 2504316 6123405 4605312 3126540 4621305
-"""))
+TABLE_1 = book_of(TABLE_1_LISTS)
 # n = 64: student i lists i xor k at place k, mentor w lists w xor (63 - k). Each step of all students is 32 exchanges of two: 63 * 32 rotations
-LARGE = book([[i ^ k for k in range(64)] for i in range(64)] + [[w ^ (63 - k) for k in range(64)] for w in range(64)])
+LARGE = book(64, [i ^ k for i in range(64) for k in range(64)] + [w ^ (63 - k) for w in range(64) for k in range(64)])
 
 # Table 1's rotations, in document 01's way of writing them
 ROTATIONS = [
@@ -172,16 +146,7 @@ def pair(x):
 
 def main():
     stdin = b"".join(bytes([call] + pair(room) + pair(len(b)) + [len(more)] + b + more) for call, b, more, room, _ in CASES)
-    stdout = "".join(line + "\n" for _, _, _, _, line in CASES).encode()
-    if len(stdin) > 65536:
-        sys.exit(f"{len(stdin)} bytes of input: the program takes 65536")
-    files = {HERE / "stdin": stdin, HERE / "stdout": stdout}
-    if sys.argv[1:] == ["--check"]:
-        bad = [str(p) for p, text in files.items() if p.read_bytes() != text]
-        sys.exit(f"not as written by this script: {', '.join(bad)}" if bad else 0)
-    for path, text in files.items():
-        path.write_bytes(text)
-    print(f"{len(CASES)} cases, {len(stdin)} bytes of input")
+    store("rotations_cases", len(CASES), stdin, "".join(line + "\n" for _, _, _, _, line in CASES))
 
 
 if __name__ == "__main__":

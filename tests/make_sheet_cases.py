@@ -7,37 +7,10 @@
 Each input is a book, built byte by byte from document 01, with a matching after it. The expected sheets are literals: those that
 document 01 gives, and others that follow from it by hand, as said beside them. No code of the library is used.
 """
-import pathlib
 import sys
 
-HERE = pathlib.Path(__file__).resolve().parent.parent / "crates" / "sheet_cases"
-
-# Table 1 of document 000: students (men), then mentors (women).
-TABLE_1 = """
-0652413 6145023 6031542 3201465 1203456 6103542 2506431
-2164530 0435261 2504316 6123405 4605312 3126540 4621305
-"""
-
-
-def book(n, entries):
-    out = [1, n]
-    for k in range(2 * n):
-        offset = 2 + 8 * n + n * k
-        out += [offset % 256, offset // 256, n % 256, n // 256]
-    return out + entries
-
-
-def digits(text):
-    return [int(c) for c in text if c.isdigit()]
-
-
-def put(b, changes):
-    """The bytes with others at some places."""
-    b = list(b)
-    for place, byte in changes.items():
-        b[place] = byte
-    return b
-
+sys.dont_write_bytecode = True
+from cases import TABLE_1, book, book_of, put, store
 
 def firsts(n):
     """Person i of either side ranks i, i + 1, ... round to i − 1. So i and i are each other's first: every pair is fixed, and nothing else
@@ -58,7 +31,7 @@ def shift(n, k):
     return [(i + k) % n for i in range(n)]
 
 
-T = book(7, digits(TABLE_1))
+T = book_of(TABLE_1)
 M = [4, 5, 6, 3, 1, 2, 0]
 ONE = book(1, [0, 0])
 TWO = book(2, [0, 1, 1, 0, 1, 0, 0, 1])
@@ -122,16 +95,7 @@ CASES = [
 
 def main():
     stdin = b"".join(bytes([len(b) % 256, len(b) // 256] + b) for _, b, _ in CASES)
-    stdout = "".join(line + "\n" for _, _, lines in CASES for line in lines).encode()
-    if len(stdin) > 65536:
-        sys.exit(f"{len(stdin)} bytes of input: the program takes 65536")
-    files = {HERE / "stdin": stdin, HERE / "stdout": stdout}
-    if sys.argv[1:] == ["--check"]:
-        bad = [str(p) for p, text in files.items() if p.read_bytes() != text]
-        sys.exit(f"not as written by this script: {', '.join(bad)}" if bad else 0)
-    for path, text in files.items():
-        path.write_bytes(text)
-    print(f"{len(CASES)} cases, {len(stdin)} bytes of input")
+    store("sheet_cases", len(CASES), stdin, "".join(line + "\n" for _, _, lines in CASES for line in lines))
 
 
 if __name__ == "__main__":

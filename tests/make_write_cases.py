@@ -8,16 +8,14 @@ The stored buffers are built byte by byte from document 01, section 'The book'. 
 case are literals, from reading the writer's order of rules there: 3, then 1 and 4, then 6 and 7, then 14. No code of the
 library is used.
 """
-import pathlib
 import sys
 
 sys.dont_write_bytecode = True
-from make_read_cases import TABLE_1, book, put, round_robin, store
-
-HERE = pathlib.Path(__file__).resolve().parent.parent / "crates" / "write_cases"
+from cases import TABLE_1, book, digits, put, store
+from make_read_cases import round_robin
 
 # The list bytes of Table 1 of document 000, 7 for each student and then 7 for each mentor.
-T = [int(c) for c in TABLE_1 if c.isdigit()]
+T = digits(TABLE_1)
 R = round_robin(64)[514:]
 
 # (what is tried, n, list bytes, room, number, place)
@@ -85,7 +83,7 @@ def main():
         for _, n, entries, room, number, _ in CASES
     )
     stdout = "".join(f"{number} {place} {room}\n" for _, _, _, room, number, place in CASES)
-    store(HERE, CASES, stdin, stdout)
+    store("write_cases", len(CASES), stdin, stdout)
 
 
 if __name__ == "__main__":
