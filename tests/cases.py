@@ -2,13 +2,6 @@
 import pathlib
 import sys
 
-# Table 1 of document 000: the lists of the students (men), then those of the mentors (women), each a word of digits.
-TABLE_1 = """
-0652413 6145023 6031542 3201465 1203456 6103542 2506431
-2164530 0435261 2504316 6123405 4605312 3126540 4621305
-"""
-
-
 def digits(text):
     """The digits of a text as numbers."""
     return [int(c) for c in text if c.isdigit()]
@@ -26,6 +19,19 @@ def book(n, entries):
 def book_of(text):
     """A book from its lists, students and then mentors, each a word of digits."""
     return book(len(text.split()) // 2, digits(text))
+
+
+# The empty book, and that of one student
+NOBODY = [1, 0]
+ONE = book_of("0 0")
+# Document 01: students 0 1 and 1 0, mentors 1 0 and 0 1; and all four lists 0 1
+TWO = book_of("01 10 10 01")
+SAME = book_of("01 01 01 01")
+# Table 1 of document 000: the students (men), then the mentors (women). Directory pair k at byte 2 + 4k, list k at byte 58 + 7k
+TABLE_1 = book_of("""
+0652413 6145023 6031542 3201465 1203456 6103542 2506431
+2164530 0435261 2504316 6123405 4605312 3126540 4621305
+""")
 
 
 def put(b, changes):

@@ -11,19 +11,9 @@ No code of the library is used.
 import sys
 
 sys.dont_write_bytecode = True
-from cases import TABLE_1 as TABLE_1_LISTS, book_of, put, store
+from cases import NOBODY, ONE, SAME, TABLE_1, TWO, book_of, put, store
 
 STUDENT_BEST, MENTOR_BEST, CHECK = 0, 1, 2
-
-
-NOBODY = [1, 0]
-ONE = book_of("0 0")
-# Document 01: students 0 1 and 1 0, mentors 1 0 and 0 1
-TWO = book_of("01 10 10 01")
-# Document 01: students 0 1 and 0 1, mentors 0 1 and 0 1
-SAME = book_of("01 01 01 01")
-# Table 1 of document 000
-TABLE_1 = book_of(TABLE_1_LISTS)
 
 # Student 2 and mentor 1 rank each other first
 THREE = book_of("012 120 120 012 210 120")

@@ -10,15 +10,14 @@ are literals, from reading the table of refusals and its order of checks. No cod
 import sys
 
 sys.dont_write_bytecode = True
-from cases import TABLE_1, book, book_of, put, store
+from cases import TABLE_1 as T, book, put, store
+
 
 def round_robin(n):
     """A book in which list k starts with k mod n and goes round."""
     return book(n, [(k + j) % n for k in range(2 * n) for j in range(n)])
 
 
-# 156 bytes: directory pair k at byte 2 + 4k, list k at byte 58 + 7k
-T = book_of(TABLE_1)
 R = round_robin(64)
 
 # (what is tried, bytes, number, place)

@@ -12,17 +12,8 @@ by hand', with the gains read off the lists. For the books FOUR and FIVE they we
 import sys
 
 sys.dont_write_bytecode = True
-from cases import TABLE_1 as TABLE_1_LISTS, book_of, digits, put, store
+from cases import NOBODY, ONE, SAME, TABLE_1, TWO, book_of, digits, put, store
 
-
-NOBODY = [1, 0]
-ONE = book_of("0 0")
-# Document 01: students 0 1 and 1 0, mentors 1 0 and 0 1
-TWO = book_of("01 10 10 01")
-# Document 01: students 0 1 and 0 1, mentors 0 1 and 0 1
-SAME = book_of("01 01 01 01")
-# Table 1 of document 000
-TABLE_1 = book_of(TABLE_1_LISTS)
 # For the matching 0321 student 1 has a repair up that moves three, 0213, and one down that moves two, 3021
 FOUR = book_of("0312 2301 1203 3102 1230 3021 2031 0132")
 # For the matching 14302 student 2 has a repair up that moves five, 32014; the matching 04213, in which students 0 and 3 are better off and 2 and 4

@@ -13,7 +13,7 @@ import itertools
 import sys
 
 sys.dont_write_bytecode = True
-from cases import TABLE_1 as TABLE_1_LISTS, book, book_of, put, store
+from cases import NOBODY, ONE, SAME, TABLE_1, TWO, book, book_of, put, store
 
 LIST, COUNT, PRECEDES, TO_MATCHING, TO_SET = 0, 1, 2, 3, 4
 
@@ -22,16 +22,8 @@ def words(numbers):
     return " ".join(str(x) for x in numbers)
 
 
-NOBODY = [1, 0]
-ONE = book_of("0 0")
-# Document 01: students 0 1 and 1 0, mentors 1 0 and 0 1
-TWO = book_of("01 10 10 01")
-# Document 01: students 0 1 and 0 1, mentors 0 1 and 0 1
-SAME = book_of("01 01 01 01")
 # Two pairs of students who exchange their mentors, apart from each other: two rotations, neither before the other
 APART = book_of("0123 1032 2301 3210 1023 0132 3210 2301")
-# Table 1 of document 000
-TABLE_1 = book_of(TABLE_1_LISTS)
 # n = 64: student i lists i xor k at place k, mentor w lists w xor (63 - k). Each step of all students is 32 exchanges of two: 63 * 32 rotations
 LARGE = book(64, [i ^ k for i in range(64) for k in range(64)] + [w ^ (63 - k) for w in range(64) for k in range(64)])
 

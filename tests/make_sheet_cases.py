@@ -10,7 +10,7 @@ document 01 gives, and others that follow from it by hand, as said beside them. 
 import sys
 
 sys.dont_write_bytecode = True
-from cases import TABLE_1, book, book_of, put, store
+from cases import NOBODY, ONE, SAME, TABLE_1, TWO, book, put, store
 
 def firsts(n):
     """Person i of either side ranks i, i + 1, ... round to i − 1. So i and i are each other's first: every pair is fixed, and nothing else
@@ -31,11 +31,7 @@ def shift(n, k):
     return [(i + k) % n for i in range(n)]
 
 
-T = book_of(TABLE_1)
 M = [4, 5, 6, 3, 1, 2, 0]
-ONE = book(1, [0, 0])
-TWO = book(2, [0, 1, 1, 0, 1, 0, 0, 1])
-ALIKE = book(2, [0, 1, 0, 1, 0, 1, 0, 1])
 R3, R64, F64 = rounds(3), rounds(64), firsts(64)
 
 TABLE_1_SHEET = ["7 6 3", "0 4 U 2", "1 5 U 4", "2 6 D 2", "3 3 D 4", "4 1 D 2", "5 2 U 2", "6 0 D 2"]
@@ -43,14 +39,14 @@ TABLE_1_SHEET = ["7 6 3", "0 4 U 2", "1 5 U 4", "2 6 D 2", "3 3 D 4", "4 1 D 2",
 # (what is tried, bytes, lines)
 CASES = [
     # Sheets that document 01 gives
-    ("n = 0", book(0, []), ["0 0 0"]),
+    ("n = 0", NOBODY, ["0 0 0"]),
     ("n = 1", ONE + [0], ["1 0 0", "0 0 F 0"]),
     ("two by two, 0 1", TWO + [0, 1], ["2 1 1", "0 0 D 2", "1 1 D 2"]),
     ("two by two, 1 0", TWO + [1, 0], ["2 1 1", "0 1 U 2", "1 0 U 2"]),
-    ("the other two by two, 1 0", ALIKE + [1, 0], ["refused 10"]),
-    ("Table 1", T + M, TABLE_1_SHEET),
+    ("the other two by two, 1 0", SAME + [1, 0], ["refused 10"]),
+    ("Table 1", TABLE_1 + M, TABLE_1_SHEET),
     # All rank 0 above 1: the stable matching is 0 1 alone
-    ("the other two by two, 0 1", ALIKE + [0, 1], ["2 0 0", "0 0 F 0", "1 1 F 0"]),
+    ("the other two by two, 0 1", SAME + [0, 1], ["2 0 0", "0 0 F 0", "1 1 F 0"]),
     # Down alone, both as near and so up, up alone
     ("three rounds, place 0", R3 + shift(3, 0), ["3 2 2", "0 0 D 3", "1 1 D 3", "2 2 D 3"]),
     ("three rounds, place 1", R3 + shift(3, 1), ["3 2 2", "0 1 U 3", "1 2 U 3", "2 0 U 3"]),
@@ -62,34 +58,34 @@ CASES = [
     # 1 short
     ("no bytes", [], ["refused 1"]),
     ("one byte", [1], ["refused 1"]),
-    ("Table 1, 155 bytes", T[:155], ["refused 1"]),
+    ("Table 1, 155 bytes", TABLE_1[:155], ["refused 1"]),
     # 2 edition, 3 crowd
-    ("edition 0", put(T + M, {0: 0}), ["refused 2"]),
-    ("edition 2", put(T + M, {0: 2}), ["refused 2"]),
-    ("n = 65", put(T + M, {1: 65}), ["refused 3"]),
+    ("edition 0", put(TABLE_1 + M, {0: 0}), ["refused 2"]),
+    ("edition 2", put(TABLE_1 + M, {0: 2}), ["refused 2"]),
+    ("n = 65", put(TABLE_1 + M, {1: 65}), ["refused 3"]),
     # 5 directory, 6 stranger, 7 repeat
-    ("first offset one more", put(T + M, {2: 59}), ["refused 5"]),
-    ("last entry is 7", put(T + M, {155: 7}), ["refused 6"]),
-    ("last entry is the one before", put(T + M, {155: 0}), ["refused 7"]),
+    ("first offset one more", put(TABLE_1 + M, {2: 59}), ["refused 5"]),
+    ("last entry is 7", put(TABLE_1 + M, {155: 7}), ["refused 6"]),
+    ("last entry is the one before", put(TABLE_1 + M, {155: 0}), ["refused 7"]),
     # 8 length; bytes past the book are the matching, so 4 does not occur
-    ("Table 1 with no matching", T, ["refused 8"]),
-    ("Table 1, one byte of the matching short", T + M[:6], ["refused 8"]),
-    ("Table 1, one byte more", T + M + [0], ["refused 8"]),
-    ("n = 0, one byte more", book(0, []) + [0], ["refused 8"]),
+    ("Table 1 with no matching", TABLE_1, ["refused 8"]),
+    ("Table 1, one byte of the matching short", TABLE_1 + M[:6], ["refused 8"]),
+    ("Table 1, one byte more", TABLE_1 + M + [0], ["refused 8"]),
+    ("n = 0, one byte more", NOBODY + [0], ["refused 8"]),
     ("n = 64, one byte more: 8,771 bytes", R64 + shift(64, 0) + [0], ["refused 8"]),
     # 9 clash
-    ("mentor 7", T + put(M, {0: 7}), ["refused 9"]),
-    ("mentor 6 twice", T + put(M, {6: 6}), ["refused 9"]),
+    ("mentor 7", TABLE_1 + put(M, {0: 7}), ["refused 9"]),
+    ("mentor 6 twice", TABLE_1 + put(M, {6: 6}), ["refused 9"]),
     ("n = 1, mentor 255", ONE + [255], ["refused 9"]),
     # 10 unstable: mentor 0 ranks student 2 first, and he ranks her above mentor 2
-    ("Table 1, 0 1 2 3 4 5 6", T + [0, 1, 2, 3, 4, 5, 6], ["refused 10"]),
+    ("Table 1, 0 1 2 3 4 5 6", TABLE_1 + [0, 1, 2, 3, 4, 5, 6], ["refused 10"]),
     # Two rules broken: the order of the checks decides
-    ("2 before 3", put(T + M, {0: 2, 1: 65}), ["refused 2"]),
-    ("5 before 6", put(T + M, {54: 148, 58: 7}), ["refused 5"]),
-    ("7 before 8", put(T, {59: 0}), ["refused 7"]),
-    ("7 before 9", put(T + M, {59: 0, 162: 4}), ["refused 7"]),
-    ("8 before 9", T + [9] + M, ["refused 8"]),
-    ("9 before 10", T + [0, 1, 2, 3, 4, 5, 5], ["refused 9"]),
+    ("2 before 3", put(TABLE_1 + M, {0: 2, 1: 65}), ["refused 2"]),
+    ("5 before 6", put(TABLE_1 + M, {54: 148, 58: 7}), ["refused 5"]),
+    ("7 before 8", put(TABLE_1, {59: 0}), ["refused 7"]),
+    ("7 before 9", put(TABLE_1 + M, {59: 0, 162: 4}), ["refused 7"]),
+    ("8 before 9", TABLE_1 + [9] + M, ["refused 8"]),
+    ("9 before 10", TABLE_1 + [0, 1, 2, 3, 4, 5, 5], ["refused 9"]),
 ]
 
 

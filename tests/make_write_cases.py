@@ -11,11 +11,11 @@ library is used.
 import sys
 
 sys.dont_write_bytecode = True
-from cases import TABLE_1, book, digits, put, store
+from cases import TABLE_1, book, put, store
 from make_read_cases import round_robin
 
 # The list bytes of Table 1 of document 000, 7 for each student and then 7 for each mentor.
-T = digits(TABLE_1)
+T = TABLE_1[58:]
 R = round_robin(64)[514:]
 
 # (what is tried, n, list bytes, room, number, place)
