@@ -1,7 +1,7 @@
 //! The functions of include/placement.h as the linked archive has them, over slices. An empty slice is passed as a
 //! null pointer and length 0.
 
-use independent::reply::Reply;
+pub use reply::Reply;
 
 mod c {
     use super::Reply;

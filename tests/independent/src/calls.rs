@@ -34,7 +34,7 @@ pub fn mentor_list(book: &[u8], mentor: u8) -> Reply {
 fn person(list: Checked<(usize, usize)>) -> Reply {
     match list {
         Ok((offset, length)) => Reply { place: offset as usize, ..Reply::value(length) },
-        Err(refusal) => Reply::refused(refusal),
+        Err(refusal) => refusal.into(),
     }
 }
 
@@ -66,7 +66,7 @@ fn lend(out: &mut [u8], size: usize, write: impl FnOnce(&mut [u8])) -> Checked<u
 pub fn repair(book: &[u8], matching: &[u8], request: &[u8], out: &mut [u8], gains: &mut [i8]) -> Reply {
     match repaired(book, matching, request, out, gains) {
         Ok(answer) => Reply { letter: answer.letter() as usize, ..Reply::value(answer.distance() as usize) },
-        Err(refusal) => Reply::refused(refusal),
+        Err(refusal) => refusal.into(),
     }
 }
 

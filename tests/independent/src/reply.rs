@@ -1,5 +1,7 @@
 //! Answers: a refusal, and the reply of include/placement.h.
 
+pub use ::reply::Reply;
+
 /// A broken rule of document 01's table: its number, its place, and for rule 10 the second place.
 #[derive(Clone, Copy, Debug, PartialEq, Eq)]
 pub struct Refusal {
@@ -25,25 +27,9 @@ pub fn rule(broken: bool, number: usize, place: usize) -> Checked<()> {
     }
 }
 
-/// `struct placement_reply` of include/placement.h.
-#[repr(C)]
-#[derive(Clone, Copy, Debug, Default, PartialEq, Eq)]
-pub struct Reply {
-    pub number: usize,
-    pub place: usize,
-    pub second: usize,
-    pub letter: usize,
-    pub value: usize,
-}
-
-impl Reply {
-    /// The reply that carries a number and nothing else.
-    pub fn value(value: usize) -> Reply {
-        Reply { value: value as usize, ..Reply::default() }
-    }
-
+impl From<Refusal> for Reply {
     /// The reply of a refusal.
-    pub fn refused(r: Refusal) -> Reply {
+    fn from(r: Refusal) -> Reply {
         Reply { number: r.number, place: r.place, second: r.second, ..Reply::default() }
     }
 }
@@ -52,6 +38,6 @@ impl Reply {
 pub fn reply(call: impl FnOnce() -> Checked<usize>) -> Reply {
     match call() {
         Ok(value) => Reply::value(value),
-        Err(refusal) => Reply::refused(refusal),
+        Err(refusal) => refusal.into(),
     }
 }

@@ -1,0 +1,30 @@
+//! The second way to every answer: all matchings of a book are listed, the stable ones kept, and each answer is found
+//! among them by document 01's definitions, word by word. No fast algorithm is wanted here, and nothing is shared with
+//! the library or with the crate `independent`. Listing is meant for n up to 7; the book's rules and the writer go up
+//! to 64.
+//!
+//! Document 01's students are men here and its mentors women, as in its source. Quotation marks hold its sentences.
+//!
+//! - `people`: a man's number and a woman's
+//! - `reply`: what a call answers, refusals
+//! - `book`: rules 1 to 7, the writer
+//! - `lists`: the ranked lists of a well-formed book
+//! - `matching`: rules 8 and 9, all matchings, distance
+//! - `stable`: blocking pairs, rule 10, all stable matchings, the two extreme ones
+//! - `rotation`: next mentor, exposed rotations, elimination, numbers
+//! - `runs`: runs of eliminations, precedence, closed sets and their matchings
+//! - `repair`: fixed pairs, repairs up and down, the answer, the grade
+//! - `sheet`: the printed sheet
+//! - `asked`: the calls of include/placement.h
+
+pub mod asked;
+pub mod book;
+pub mod lists;
+pub mod matching;
+pub mod people;
+pub mod reply;
+pub mod repair;
+pub mod rotation;
+pub mod runs;
+pub mod sheet;
+pub mod stable;

@@ -1,0 +1,94 @@
+//! Repairs of a pair of a given stable matching, the places gained, and the grade.
+
+use crate::matching::Matching;
+use crate::people::Man;
+use crate::stable::Listing;
+
+/// "The answer is up, down or fixed, and a repair carries its distance and matching."
+#[derive(Clone, Copy, Debug, PartialEq, Eq)]
+pub enum Answer<'a> {
+    Up(&'a Matching, usize),
+    Down(&'a Matching, usize),
+    Fixed,
+}
+
+impl Answer<'_> {
+    /// "letter (U up, D down, F fixed)".
+    pub fn letter(&self) -> char {
+        match self {
+            Answer::Up(..) => 'U',
+            Answer::Down(..) => 'D',
+            Answer::Fixed => 'F',
+        }
+    }
+
+    /// "distance, 0 for F".
+    pub fn distance(&self) -> usize {
+        match *self {
+            Answer::Up(_, distance) | Answer::Down(_, distance) => distance,
+            Answer::Fixed => 0,
+        }
+    }
+}
+
+impl Listing {
+    /// "the stable matchings without the pair" of this man in the given one.
+    fn without_pair(&self, given: &Matching, man: Man) -> Vec<&Matching> {
+        self.stable().iter().filter(|x| !x.holds(man, given.woman_of(man))).collect()
+    }
+
+    /// "A pair is fixed if every stable matching of the book holds it."
+    pub fn is_fixed(&self, given: &Matching, man: Man) -> bool {
+        self.stable().iter().all(|x| x.holds(man, given.woman_of(man)))
+    }
+
+    /// "Repair up: of the stable matchings without the pair in which no student is worse off than in the given one, that
+    /// in which each student has the lowest-ranked mentor that any of these gives."
+    pub fn repair_up(&self, given: &Matching, man: Man) -> Option<&Matching> {
+        let mut these = self.without_pair(given, man);
+        these.retain(|x| self.lists.no_man_worse_off(x, given));
+        these.iter().copied().find(|x| these.iter().all(|any| self.lists.no_man_worse_off(any, x)))
+    }
+
+    /// "Repair down: of those without the pair in which no student is better off, that in which each has the
+    /// highest-ranked such mentor."
+    pub fn repair_down(&self, given: &Matching, man: Man) -> Option<&Matching> {
+        let mut these = self.without_pair(given, man);
+        these.retain(|x| self.lists.no_man_worse_off(given, x));
+        these.iter().copied().find(|x| these.iter().all(|any| self.lists.no_man_worse_off(x, any)))
+    }
+
+    /// The answer for a man's pair: "The nearer is taken; at equal distance, up."
+    pub fn answer(&self, given: &Matching, man: Man) -> Answer<'_> {
+        if self.is_fixed(given, man) {
+            return Answer::Fixed;
+        }
+        let up = self.repair_up(given, man).map(|x| Answer::Up(x, x.distance(given)));
+        let down = self.repair_down(given, man).map(|x| Answer::Down(x, x.distance(given)));
+        match (up, down) {
+            (Some(up), Some(down)) if up.distance() <= down.distance() => up,
+            (_, Some(down)) => down,
+            (Some(up), None) => up,
+            (None, None) => panic!("a pair that is not fixed has a repair"),
+        }
+    }
+
+    /// "each student's places gained, old place less new: above zero is better".
+    pub fn gains(&self, given: &Matching, repaired: &Matching) -> Vec<i8> {
+        let place = |matching: &Matching, man| self.lists.place_of_woman(man, matching.woman_of(man)) as i8;
+        Man::all(self.lists.n()).map(|man| place(given, man) - place(repaired, man)).collect()
+    }
+
+    /// "The grade is the largest distance of an answer, less 1, over the pairs that are not fixed. It is 0 if all are
+    /// fixed."
+    pub fn grade(&self, given: &Matching) -> usize {
+        let not_fixed = Man::all(self.lists.n()).filter(|&man| !self.is_fixed(given, man));
+        not_fixed.map(|man| self.answer(given, man).distance() - 1).max().unwrap_or(0)
+    }
+
+    /// The fewest students that a stable matching without the man's pair moves, or none where the pair is fixed: demand 3
+    /// says that the answer's distance is this.
+    pub fn fewest_moved(&self, given: &Matching, man: Man) -> Option<usize> {
+        self.without_pair(given, man).iter().map(|x| x.distance(given)).min()
+    }
+}
