@@ -1,0 +1,170 @@
+//! Each call on the archive and on the listing, with equal inputs and equal result buffers, compared in every field of
+//! the reply and in every byte of the buffers and of the guard bytes around them.
+
+use crate::lent::Lent;
+use crate::tally::{Call, Tally};
+use archive::Reply;
+use listing::asked::{self, Asked};
+use listing::people::{Man, Woman};
+
+/// A reply of the listing in the form of the C interface.
+fn in_c(reply: listing::reply::Reply) -> Reply {
+    match reply {
+        Ok(granted) => {
+            let letter = granted.letter.map_or(0, |letter| letter as usize);
+            Reply { number: 0, place: granted.place, second: 0, letter, value: granted.value }
+        }
+        Err(r) => Reply { number: r.number, place: r.place, second: r.second, letter: 0, value: 0 },
+    }
+}
+
+/// Both sides, with the tally of what was compared.
+#[derive(Default)]
+pub struct Both {
+    pub tally: Tally,
+}
+
+impl Both {
+    /// Counts a difference where something that both sides have to meet does not hold.
+    pub fn expect(&mut self, holds: bool, what: &str) {
+        if !holds {
+            self.tally.differ(what.to_string());
+        }
+    }
+
+    /// Compares the replies of a call without a result buffer; `inputs` are for the report.
+    fn replies(&mut self, call: Call, inputs: &[&[u8]], given: Reply, due: listing::reply::Reply) -> Reply {
+        let due = in_c(due);
+        self.tally.count(call, due);
+        if given != due {
+            self.tally.differ(format!("{call:?} {inputs:?}\n  archive {given:?}\n  due     {due:?}"));
+        }
+        due
+    }
+
+    /// Makes a call with a result buffer of this length on both sides; the reply that is due, and the due buffer.
+    fn lending(
+        &mut self,
+        call: Call,
+        inputs: &[&[u8]],
+        room: usize,
+        archive: impl Fn(&mut [u8]) -> Reply,
+        listing: impl Fn(&mut [u8]) -> listing::reply::Reply,
+    ) -> (Reply, Vec<u8>) {
+        let (mut one, mut other) = (Lent::bytes(room), Lent::bytes(room));
+        let (given, due) = (archive(one.buffer()), in_c(listing(other.buffer())));
+        self.tally.count(call, due);
+        if given != due || one != other {
+            let (a, b) = (one.all(), other.all());
+            let report = format!("\n  archive {given:?} {a:?}\n  due     {due:?} {b:?}");
+            self.tally.differ(format!("{call:?} {inputs:?}, room {room}{report}"));
+        }
+        (due, other.buffer().to_vec())
+    }
+
+    /// The check of a book.
+    pub fn check_book(&mut self, book: &Asked) -> Reply {
+        self.replies(Call::CheckBook, &[book.book()], archive::check_book(book.book()), book.check_book())
+    }
+
+    /// The size of a book.
+    pub fn book_size(&mut self, n: usize) {
+        self.replies(Call::BookSize, &[&n.to_le_bytes()], archive::book_size(n), asked::book_size(n));
+    }
+
+    /// The writer: the book that is due, or no bytes where the lists are refused.
+    pub fn write_book(&mut self, n: usize, lists: &[u8], room: usize) -> Vec<u8> {
+        let archive = |out: &mut [u8]| archive::write_book(n, lists, out);
+        let listing = |out: &mut [u8]| asked::write_book(n, lists, out);
+        let (due, mut out) = self.lending(Call::WriteBook, &[&n.to_le_bytes(), lists], room, archive, listing);
+        out.truncate(due.value);
+        out
+    }
+
+    /// One student's list.
+    pub fn student_list(&mut self, book: &Asked, number: u8) {
+        let given = archive::student_list(book.book(), number);
+        self.replies(Call::StudentList, &[book.book(), &[number]], given, book.student_list(Man(number)));
+    }
+
+    /// One mentor's list.
+    pub fn mentor_list(&mut self, book: &Asked, number: u8) {
+        let given = archive::mentor_list(book.book(), number);
+        self.replies(Call::MentorList, &[book.book(), &[number]], given, book.mentor_list(Woman(number)));
+    }
+
+    /// The check of a matching.
+    pub fn check_matching(&mut self, book: &Asked, matching: &[u8]) -> Reply {
+        let given = archive::check_matching(book.book(), matching);
+        self.replies(Call::CheckMatching, &[book.book(), matching], given, book.check_matching(matching))
+    }
+
+    /// The student-best matching.
+    pub fn student_best(&mut self, book: &Asked, room: usize) {
+        let archive = |out: &mut [u8]| archive::student_best(book.book(), out);
+        self.lending(Call::StudentBest, &[book.book()], room, archive, |out| book.student_best(out));
+    }
+
+    /// The mentor-best matching.
+    pub fn mentor_best(&mut self, book: &Asked, room: usize) {
+        let archive = |out: &mut [u8]| archive::mentor_best(book.book(), out);
+        self.lending(Call::MentorBest, &[book.book()], room, archive, |out| book.mentor_best(out));
+    }
+
+    /// The repair of a pair, with result buffers of these lengths.
+    pub fn repair(&mut self, book: &Asked, matching: &[u8], request: &[u8], room: usize, gains_room: usize) -> Reply {
+        let (mut one, mut other) = (Lent::bytes(room), Lent::bytes(room));
+        let (mut gains, mut due_gains) = (Lent::gains(gains_room), Lent::gains(gains_room));
+        let given = archive::repair(book.book(), matching, request, one.buffer(), gains.buffer());
+        let due = in_c(book.repair(matching, request, other.buffer(), due_gains.buffer()));
+        self.tally.count(Call::Repair, due);
+        if given != due || one != other || gains != due_gains {
+            let a = format!("{given:?} {:?} {:?}", one.all(), gains.all());
+            let b = format!("{due:?} {:?} {:?}", other.all(), due_gains.all());
+            let inputs = [book.book(), matching, request];
+            self.tally.differ(format!("Repair {inputs:?}, rooms {room} {gains_room}\n  archive {a}\n  due     {b}"));
+        }
+        due
+    }
+
+    /// The grade of a matching.
+    pub fn grade(&mut self, book: &Asked, matching: &[u8]) {
+        let given = archive::grade(book.book(), matching);
+        self.replies(Call::Grade, &[book.book(), matching], given, book.grade(matching));
+    }
+
+    /// The list of rotations: how many are due.
+    pub fn rotations(&mut self, book: &Asked, room: usize) -> usize {
+        let archive = |out: &mut [u8]| archive::rotations(book.book(), out);
+        self.lending(Call::Rotations, &[book.book()], room, archive, |out| book.rotations(out)).0.value
+    }
+
+    /// Whether one rotation precedes another.
+    pub fn precedes(&mut self, book: &Asked, first: usize, second: usize) {
+        let given = archive::precedes(book.book(), first, second);
+        let inputs = [book.book(), &first.to_le_bytes(), &second.to_le_bytes()];
+        self.replies(Call::Precedes, &inputs, given, book.precedes(first, second));
+    }
+
+    /// The matching of a set.
+    pub fn set_to_matching(&mut self, book: &Asked, set: &[u8], room: usize) {
+        let archive = |out: &mut [u8]| archive::set_to_matching(book.book(), set, out);
+        let listing = |out: &mut [u8]| book.set_to_matching(set, out);
+        self.lending(Call::SetToMatching, &[book.book(), set], room, archive, listing);
+    }
+
+    /// The set of a matching: the one that is due, or no bytes where the matching is refused.
+    pub fn matching_to_set(&mut self, book: &Asked, matching: &[u8], room: usize) -> Vec<u8> {
+        let archive = |out: &mut [u8]| archive::matching_to_set(book.book(), matching, out);
+        let listing = |out: &mut [u8]| book.matching_to_set(matching, out);
+        let (due, mut set) = self.lending(Call::MatchingToSet, &[book.book(), matching], room, archive, listing);
+        set.truncate(due.value);
+        set
+    }
+
+    /// The sheet of a book with a matching after it.
+    pub fn sheet(&mut self, input: &[u8], room: usize) {
+        let archive = |out: &mut [u8]| archive::sheet(input, out);
+        self.lending(Call::Sheet, &[input], room, archive, |out| asked::sheet(input, out));
+    }
+}

@@ -1,0 +1,97 @@
+//! What is asked of every book: the extremes, the rotations and their order, sets, and of its matchings the check, the
+//! repairs of all pairs, the grade, the set and the sheet. Result buffers are long enough.
+
+use crate::both::Both;
+use listing::asked::Asked;
+use listing::matching::Matching;
+use listing::people::Man;
+
+/// Rooms that are enough for n up to 6: a matching, gains or a set; the list of rotations; a sheet.
+const ROOM: usize = 16;
+const LIST_ROOM: usize = 200;
+const SHEET_ROOM: usize = 64;
+
+impl Both {
+    /// Asks what is asked of a book alone.
+    pub fn ask_book(&mut self, book: &Asked) {
+        self.tally.books += 1;
+        self.check_book(book);
+        self.student_best(book, ROOM);
+        self.mentor_best(book, ROOM);
+        let rotations = self.rotations(book, LIST_ROOM);
+        self.tally.rotations += rotations;
+        self.ask_order(book, rotations);
+        self.ask_sets(book, rotations);
+    }
+
+    /// Asks which rotation precedes which, and of the first number that no rotation has.
+    fn ask_order(&mut self, book: &Asked, rotations: usize) {
+        for first in 0..=rotations {
+            for second in 0..=rotations {
+                self.precedes(book, first, second);
+            }
+        }
+    }
+
+    /// Asks of every set of at most three rotations, of one with a mark too many and of one with the mark 2.
+    fn ask_sets(&mut self, book: &Asked, rotations: usize) {
+        if rotations <= 3 {
+            for number in 0..1 << rotations {
+                let set: Vec<u8> = (0..rotations).map(|k| number >> k & 1).collect();
+                self.ask_set(book, &set);
+            }
+        }
+        self.set_to_matching(book, &vec![0; rotations + 1], ROOM);
+        if rotations > 0 {
+            self.set_to_matching(book, &vec![2; rotations], ROOM);
+        }
+    }
+
+    /// Asks for the matching of a set, closed or not.
+    fn ask_set(&mut self, book: &Asked, set: &[u8]) {
+        self.tally.sets += 1;
+        self.set_to_matching(book, set, ROOM);
+    }
+
+    /// Asks everything of bytes as a matching; `number` says which mark of its set is exchanged if it is stable.
+    pub fn ask_matching(&mut self, book: &Asked, matching: &[u8], number: usize) {
+        self.tally.matchings += 1;
+        self.check_matching(book, matching);
+        match book.stable_matching(matching) {
+            Ok(stable) => self.ask_stable(book, &stable, matching, number),
+            Err(_) => {
+                self.repair(book, matching, &[0, 0], ROOM, ROOM);
+                self.matching_to_set(book, matching, ROOM);
+            }
+        }
+        self.grade(book, matching);
+        self.tally.sheets += 1;
+        self.sheet(&[book.book(), matching].concat(), SHEET_ROOM);
+    }
+
+    /// Asks what is asked of stable matchings alone: the answers for all pairs, and sets.
+    fn ask_stable(&mut self, book: &Asked, stable: &Matching, matching: &[u8], number: usize) {
+        self.tally.stable_matchings += 1;
+        for man in Man::all(matching.len()) {
+            self.ask_pair(book, stable, matching, man);
+        }
+        let mut set = self.matching_to_set(book, matching, ROOM);
+        self.ask_set(book, &set);
+        if !set.is_empty() {
+            let at = number % set.len();
+            set[at] = 1 - set[at];
+            self.ask_set(book, &set);
+        }
+    }
+
+    /// Asks for the repair of a man's pair, which moves as few students as any, and of him with the woman after his own.
+    fn ask_pair(&mut self, book: &Asked, stable: &Matching, matching: &[u8], man: Man) {
+        let woman = stable.woman_of(man);
+        let due = self.repair(book, matching, &[man.0, woman.0], ROOM, ROOM);
+        let letter = ['U', 'D', 'F'].iter().position(|&letter| letter as usize == due.letter);
+        self.tally.letters[letter.expect("every answer has a letter")] += 1;
+        let fewest = book.listing().fewest_moved(stable, man);
+        self.expect(due.value == fewest.unwrap_or(0), "the least distance of a stable matching without the pair");
+        self.repair(book, matching, &[man.0, woman.0 + 1], ROOM, ROOM);
+    }
+}

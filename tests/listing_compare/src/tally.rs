@@ -1,0 +1,121 @@
+//! Counts of what was compared, the rules that were met, and the report of differences.
+
+use archive::Reply;
+
+/// Differences that are printed in full, and differences after which the program ends.
+const PRINTED: usize = 5;
+const MANY: usize = 100;
+
+/// Rules 1 to 7, which every call that takes a book may be refused by.
+const BOOK: &[usize] = &[1, 2, 3, 4, 5, 6, 7];
+
+/// The calls of include/placement.h.
+#[derive(Clone, Copy, Debug)]
+pub enum Call {
+    CheckBook,
+    BookSize,
+    WriteBook,
+    StudentList,
+    MentorList,
+    CheckMatching,
+    StudentBest,
+    MentorBest,
+    Repair,
+    Grade,
+    Rotations,
+    Precedes,
+    SetToMatching,
+    MatchingToSet,
+    Sheet,
+}
+
+/// Each call, whether it takes a book, and the other rules that it may be refused by, as the header says.
+const CALLS: [(Call, bool, &[usize]); 15] = [
+    (Call::CheckBook, true, &[]),
+    (Call::BookSize, false, &[3]),
+    (Call::WriteBook, false, &[3, 1, 4, 6, 7, 14]),
+    (Call::StudentList, true, &[11]),
+    (Call::MentorList, true, &[11]),
+    (Call::CheckMatching, true, &[8, 9, 10]),
+    (Call::StudentBest, true, &[14]),
+    (Call::MentorBest, true, &[14]),
+    (Call::Repair, true, &[8, 9, 10, 13, 11, 12, 14]),
+    (Call::Grade, true, &[8, 9, 10]),
+    (Call::Rotations, true, &[14]),
+    (Call::Precedes, true, &[11]),
+    (Call::SetToMatching, true, &[15, 16, 14]),
+    (Call::MatchingToSet, true, &[8, 9, 10, 14]),
+    (Call::Sheet, false, &[14]),
+];
+
+/// The counts.
+#[derive(Default)]
+pub struct Tally {
+    pub books: usize,
+    pub damaged_books: usize,
+    pub matchings: usize,
+    pub stable_matchings: usize,
+    pub rotations: usize,
+    pub sets: usize,
+    pub sheets: usize,
+    /// Answers with U, D and F.
+    pub letters: [usize; 3],
+    /// For each call how often each rule was met; at 0 how often none was.
+    met: [[usize; 17]; 15],
+    pub differences: usize,
+}
+
+impl Tally {
+    /// Counts a call by the reply that is due.
+    pub fn count(&mut self, call: Call, due: Reply) {
+        self.met[call as usize][due.number] += 1;
+    }
+
+    /// How many calls were made.
+    pub fn calls(&self) -> usize {
+        self.met.iter().flatten().sum()
+    }
+
+    /// How often a rule was met.
+    pub fn met(&self, rule: usize) -> usize {
+        self.met.iter().map(|rules| rules[rule]).sum()
+    }
+
+    /// How many calls were refused.
+    pub fn refusals(&self) -> usize {
+        (1..=16).map(|rule| self.met(rule)).sum()
+    }
+
+    /// Adds the calls of another tally.
+    pub fn add_calls(&mut self, other: &Tally) {
+        for (met, more) in self.met.iter_mut().flatten().zip(other.met.iter().flatten()) {
+            *met += more;
+        }
+    }
+
+    /// The calls that never gave a result, or were never refused by a rule that they have.
+    pub fn missing(&self) -> Vec<String> {
+        let mut missing = Vec::new();
+        for (call, takes_book, others) in CALLS {
+            let book = if takes_book { BOOK } else { &[] };
+            for &rule in [0].iter().chain(book).chain(others) {
+                if self.met[call as usize][rule] == 0 {
+                    missing.push(format!("{call:?} by rule {rule}"));
+                }
+            }
+        }
+        missing
+    }
+
+    /// Counts a difference and prints it if it is one of the first; ends the program when there are many.
+    pub fn differ(&mut self, what: String) {
+        self.differences += 1;
+        if self.differences <= PRINTED {
+            eprintln!("difference {} in {what}", self.differences);
+        }
+        if self.differences == MANY {
+            eprintln!("{MANY} differences: the comparison ends here");
+            std::process::exit(1);
+        }
+    }
+}
