@@ -1,28 +1,49 @@
-//! Holds the archive against the listing of all matchings. Prints how much was compared and how often each rule was met;
-//! exits with 1 on any difference, or where a call never gave a result or never met one of its rules.
+//! Holds the archive against the listing of all matchings, in two parts: every book for n up to 3 and drawn ones for
+//! n = 4 to 6 with sound questions; and, on fewer books, whatever breaks a rule. Prints how much was compared and how
+//! often each rule was met. Exits with 1 on any difference, or where a call never gave a result or never met one of its
+//! rules.
 
+mod beyond;
 mod books;
 mod both;
+mod damage;
 mod draw;
 mod lent;
 mod lists;
+mod marks;
+mod numbers;
 mod questions;
+mod requests;
+mod rooms;
+mod strings;
 mod tally;
+mod writer;
 
 use both::Both;
 use std::process::ExitCode;
 use tally::Tally;
 
 fn main() -> ExitCode {
-    let mut known = Both::default();
-    known.ask_small_books();
-    known.ask_drawn_books();
-    print_known(&known.tally);
-    ExitCode::from((known.tally.differences > 0) as u8)
+    let mut sound = Both::default();
+    sound.ask_small_books();
+    sound.ask_drawn_books();
+    print_sound(&sound.tally);
+    let mut beyond = Both::default();
+    beyond.ask_beyond();
+    print_beyond(&beyond.tally);
+    let mut calls = beyond.tally;
+    let differences = sound.tally.differences + calls.differences;
+    calls.add_calls(&sound.tally);
+    print_rules(&calls);
+    let missing = calls.missing();
+    for what in &missing {
+        println!("never met: {what}");
+    }
+    ExitCode::from((differences > 0 || !missing.is_empty()) as u8)
 }
 
 /// Prints the counts of the first part.
-fn print_known(tally: &Tally) {
+fn print_sound(tally: &Tally) {
     let [up, down, fixed] = tally.letters;
     println!("books {}", tally.books);
     println!("matchings {}", tally.matchings);
@@ -35,4 +56,21 @@ fn print_known(tally: &Tally) {
     println!("sets {}", tally.sets);
     println!("sheets {}", tally.sheets);
     println!("differences {}", tally.differences);
+}
+
+/// Prints the counts of the second part.
+fn print_beyond(tally: &Tally) {
+    println!("beyond these: books {}", tally.books);
+    println!("damaged copies {}", tally.damaged_books);
+    println!("calls {}", tally.calls());
+    println!("refusals {}", tally.refusals());
+    println!("differences {}", tally.differences);
+}
+
+/// Prints how often each rule was met in both parts.
+fn print_rules(tally: &Tally) {
+    println!("calls of both parts {}", tally.calls());
+    for rule in 1..=16 {
+        println!("rule {rule} {}", tally.met(rule));
+    }
 }

@@ -1,0 +1,32 @@
+//! Rules 13, 11, 12 and 14: requests for a repair, alone and with buffers that are too short.
+
+use crate::both::Both;
+use listing::asked::Asked;
+
+impl Both {
+    /// Asks each stable matching of a book with every request of up to two bytes, and with longer ones.
+    pub fn ask_requests(&mut self, book: &Asked, n: usize) {
+        let numbers = || (0..=n as u8 + 1).chain([64, 255]);
+        for stable in book.listing().stable() {
+            let matching = stable.bytes();
+            self.ask_request(book, &matching, &[]);
+            for student in numbers() {
+                self.ask_request(book, &matching, &[student]);
+                for mentor in numbers() {
+                    self.ask_request(book, &matching, &[student, mentor]);
+                }
+            }
+            self.ask_request(book, &matching, &[0, 0, 0]);
+            self.ask_request(book, &matching, &[0, matching.first().copied().unwrap_or(0), 1, 1]);
+        }
+    }
+
+    /// Asks one request with buffers that are long enough, and with one or both too short.
+    fn ask_request(&mut self, book: &Asked, matching: &[u8], request: &[u8]) {
+        let n = matching.len();
+        let short = n.saturating_sub(1);
+        for (room, gains_room) in [(n, n), (short, n), (n, short), (0, 0)] {
+            self.repair(book, matching, request, room, gains_room);
+        }
+    }
+}

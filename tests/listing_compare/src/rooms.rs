@@ -1,0 +1,54 @@
+//! Rule 14: every call that has a result buffer, with each length about the one that it needs.
+
+use crate::both::Both;
+use listing::asked::Asked;
+use listing::people::Man;
+use listing::{rotation, sheet};
+
+impl Both {
+    /// Asks with result buffers from none to two entries more than are needed.
+    pub fn ask_rooms(&mut self, book: &Asked, n: usize) {
+        for room in 0..=n + 2 {
+            self.student_best(book, room);
+            self.mentor_best(book, room);
+        }
+        let rotations = &book.runs().rotations;
+        for room in 0..=rotation::list_bytes(rotations).len() + 2 {
+            self.rotations(book, room);
+        }
+        for stable in book.listing().stable() {
+            let matching = stable.bytes();
+            for room in 0..=rotations.len() + 2 {
+                self.matching_to_set(book, &matching, room);
+            }
+            for room in 0..=n + 2 {
+                self.set_to_matching(book, book.runs().set_of(stable), room);
+            }
+            self.ask_repair_rooms(book, &matching);
+        }
+        let best = book.listing().student_best().bytes();
+        self.ask_sheet_rooms(&[book.book(), &best].concat());
+        self.ask_sheet_rooms(book.book());
+    }
+
+    /// Asks for the repair of every pair with both buffers a little too short, long enough or longer.
+    fn ask_repair_rooms(&mut self, book: &Asked, matching: &[u8]) {
+        let n = matching.len();
+        for man in Man::all(n) {
+            let request = [man.0, matching[man.index()]];
+            for room in [0, n - 1, n, n + 1] {
+                for gains_room in [0, n - 1, n, n + 1] {
+                    self.repair(book, matching, &request, room, gains_room);
+                }
+            }
+        }
+    }
+
+    /// Asks for a sheet with buffers from three bytes too short to two longer, with none and with one of 1,024.
+    fn ask_sheet_rooms(&mut self, input: &[u8]) {
+        let length = sheet::text(input).len();
+        for room in [0, 1].into_iter().chain(length - 3..=length + 2).chain([1024]) {
+            self.sheet(input, room);
+        }
+    }
+}
