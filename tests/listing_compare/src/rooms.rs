@@ -29,6 +29,7 @@ impl Both {
         let best = book.listing().student_best().bytes();
         self.ask_sheet_rooms(&[book.book(), &best].concat());
         self.ask_sheet_rooms(book.book());
+        self.sheet(&[book.book(), &[0; 8771]].concat(), 64);
     }
 
     /// Asks for the repair of every pair with both buffers a little too short, long enough or longer.
