@@ -165,6 +165,14 @@ impl Both {
     /// The sheet of a book with a matching after it.
     pub fn sheet(&mut self, input: &[u8], room: usize) {
         let archive = |out: &mut [u8]| archive::sheet(input, out);
-        self.lending(Call::Sheet, &[input], room, archive, |out| asked::sheet(input, out));
+        let (due, out) = self.lending(Call::Sheet, &[input], room, archive, |out| asked::sheet(input, out));
+        if let Some(number) = printed_refusal(&out[..due.value]) {
+            self.tally.printed[number] += 1;
+        }
     }
+}
+
+/// The number of the refusal that a sheet prints, if it prints one.
+fn printed_refusal(text: &[u8]) -> Option<usize> {
+    std::str::from_utf8(text).ok()?.strip_prefix("refused ")?.trim_end().parse().ok()
 }

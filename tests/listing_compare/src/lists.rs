@@ -94,3 +94,25 @@ fn exchange_neighbours(lists: &mut [u8], n: usize, draw: &mut Draw) {
         }
     }
 }
+
+#[cfg(test)]
+mod tests {
+    use super::*;
+    use listing::asked::Asked;
+
+    /// How many stable matchings the lists of a kind have before anybody is renumbered.
+    fn stable_matchings(kind: Kind, n: usize) -> usize {
+        let mut draw = Draw::after(1);
+        let mut lists: Vec<u8> = (0..n).flat_map(|x| kind.man_list(n, x, &mut draw)).collect();
+        lists.extend((0..n).flat_map(|x| kind.woman_list(n, x, &mut draw)));
+        let book = listing::book::write(n, &lists, 122).expect("lists that break no rule");
+        Asked::new(&book).listing().stable().len()
+    }
+
+    /// The kinds have the stable matchings that are said of them.
+    #[test]
+    fn kinds_have_many_stable_matchings() {
+        assert_eq!([4, 5, 6].map(|n| stable_matchings(Kind::Cyclic, n)), [4, 5, 6]);
+        assert_eq!([4, 5, 6].map(|n| stable_matchings(Kind::Xor, n)), [10, 12, 32]);
+    }
+}

@@ -1,7 +1,7 @@
 //! Holds the archive against the listing of all matchings, in two parts: every book for n up to 3 and drawn ones for
 //! n = 4 to 6 with sound questions; and, on fewer books, whatever breaks a rule. Prints how much was compared and how
 //! often each rule was met. Exits with 1 on any difference, or where a call never gave a result or never met one of its
-//! rules.
+//! rules, or no sheet printed a refusal that it can.
 
 mod beyond;
 mod books;
@@ -73,4 +73,5 @@ fn print_rules(tally: &Tally) {
     for rule in 1..=16 {
         println!("rule {rule} {}", tally.met(rule));
     }
+    println!("sheets that print a refusal {}", tally.printed.iter().sum::<usize>());
 }

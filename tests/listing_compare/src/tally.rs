@@ -62,6 +62,8 @@ pub struct Tally {
     pub letters: [usize; 3],
     /// For each call how often each rule was met; at 0 how often none was.
     met: [[usize; 17]; 15],
+    /// How often a sheet printed the refusal by each rule.
+    pub printed: [usize; 17],
     pub differences: usize,
 }
 
@@ -91,9 +93,13 @@ impl Tally {
         for (met, more) in self.met.iter_mut().flatten().zip(other.met.iter().flatten()) {
             *met += more;
         }
+        for (printed, more) in self.printed.iter_mut().zip(other.printed) {
+            *printed += more;
+        }
     }
 
-    /// The calls that never gave a result, or were never refused by a rule that they have.
+    /// The calls that never gave a result or were never refused by a rule that they have, and the refusals that no sheet
+    /// printed; rule 4 does not occur in a sheet.
     pub fn missing(&self) -> Vec<String> {
         let mut missing = Vec::new();
         for (call, takes_book, others) in CALLS {
@@ -102,6 +108,11 @@ impl Tally {
                 if self.met[call as usize][rule] == 0 {
                     missing.push(format!("{call:?} by rule {rule}"));
                 }
+            }
+        }
+        for rule in [1, 2, 3, 5, 6, 7, 8, 9, 10] {
+            if self.printed[rule] == 0 {
+                missing.push(format!("a sheet that prints the refusal by rule {rule}"));
             }
         }
         missing

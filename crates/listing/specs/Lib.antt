@@ -1,2 +1,0 @@
--- What the contracts of `listing` cite. Assumes nothing.
-pub mod Reply
