@@ -1,10 +1,11 @@
 #!/usr/bin/env python3
-"""The counts of the first part of tests/listing_compare, worked out from document 01's definitions over all matchings.
+"""The counts of the first part of tests/listing_compare, from document 01's definitions over all matchings.
 
-    tests/make_listing_counts.py            prints them (some minutes)
+    tests/make_listing_counts.py            prints them, in a quarter of a minute
     tests/make_listing_counts.py --check    says whether tests/listing_compare/expected begins with them
 
-The books and what is asked of them are those of tests/listing_compare; no code is taken from there or from tests/listing.
+The books and what is asked of them are those of tests/listing_compare; no code is taken from there or from
+tests/listing.
 """
 import collections
 import itertools
@@ -77,7 +78,7 @@ class Book:
         return found
 
     def runs(self, avoided=None):
-        """Every matching that a run without the rotation reaches, with the set of rotations that a run to it eliminates."""
+        """Every matching that a run without the rotation reaches, with the rotations that a run to it eliminates."""
         start = self.student_best()
         reached, waiting = {start: frozenset()}, [start]
         while waiting:
@@ -94,7 +95,7 @@ class Book:
         return reached
 
     def order(self, rotations):
-        """The pairs of numbers of which the first precedes the second: no run without the first exposes the second."""
+        """The pairs of numbers of which the first precedes the second: no run without it exposes the second."""
         before = set()
         for j, first in enumerate(rotations):
             exposed = {rotation for m in self.runs(first) for rotation in self.exposed(m)}
@@ -237,7 +238,8 @@ def count_drawn(counts):
                     counts.refused()
 
 
-WORDS = ["books", "matchings", "stable matchings", "answers U", "answers D", "answers F", "refusals", "rotations", "sets", "sheets"]
+WORDS = ["books", "matchings", "stable matchings", "answers U", "answers D", "answers F"]
+WORDS += ["refusals", "rotations", "sets", "sheets"]
 
 if __name__ == "__main__":
     counts = Counts()
@@ -247,5 +249,5 @@ if __name__ == "__main__":
     if sys.argv[1:] == ["--check"]:
         stored = (pathlib.Path(__file__).resolve().parent / "listing_compare" / "expected").read_text()
         lines = [line for line in stored.splitlines(keepends=True) if not line.startswith("#")]
-        sys.exit(0 if "".join(lines).startswith(text) else "tests/listing_compare/expected does not begin with:\n" + text)
+        sys.exit(0 if "".join(lines).startswith(text) else "tests/listing_compare/expected does not begin with\n" + text)
     sys.stdout.write(text)

@@ -1,7 +1,8 @@
 //! The calls of include/placement.h. A book is asked by many calls, so what is listed of it is kept.
 //!
-//! "After the book, as far as a call takes such input or a result buffer: 8, 9, 10, then 13, 11, 12, then 14; for a set
-//! 15, 16, 14; for one list or two rotations 11." "Nothing is written on refusal; on success nothing past the result."
+//! "After the book, as far as a call takes such input or a result buffer: 8, 9, 10, then 13, 11, 12, then 14; for a
+//! set 15, 16, 14; for one list or two rotations 11." "Nothing is written on refusal; on success nothing past the
+//! result."
 
 use crate::book;
 use crate::lists::Lists;
@@ -98,8 +99,8 @@ impl Asked<'_> {
         granted(n)
     }
 
-    /// The repair of one pair: "Fixed writes neither matching nor gains, yet both buffers must hold n entries or 14 is
-    /// given."
+    /// The repair of one pair: "Fixed writes neither matching nor gains, yet both buffers must hold n entries or 14
+    /// is given."
     pub fn repair(&self, matching: &[u8], request: &[u8], out: &mut [u8], gains: &mut [i8]) -> Reply {
         let given = self.stable_matching(matching)?;
         let man = self.requested(&given, request)?;
@@ -115,8 +116,8 @@ impl Asked<'_> {
         Ok(Granted { letter: Some(answer.letter()), value: answer.distance(), place: 0 })
     }
 
-    /// The asking man of a request: 13, "request is not exactly two bytes, student then mentor"; 11; 12, "the two are not
-    /// together".
+    /// The asking man of a request: 13, "request is not exactly two bytes, student then mentor"; 11; 12, "the two are
+    /// not together".
     fn requested(&self, given: &Matching, request: &[u8]) -> Result<Man, Refusal> {
         let n = self.checked?;
         let &[student, mentor] = request else {

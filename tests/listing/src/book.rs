@@ -72,8 +72,8 @@ fn check_entries(n: usize, entries: &[u8], first_place: usize) -> Result<(), Ref
     Ok(())
 }
 
-/// The book that a writer makes of n and its list bytes: "It refuses by 3, then 1 and 4 against that count, then 6 and
-/// 7, then 14; places count from the first list byte." `room` is the length of the result buffer.
+/// The book that a writer makes of n and its list bytes: "It refuses by 3, then 1 and 4 against that count, then 6
+/// and 7, then 14; places count from the first list byte." `room` is the length of the result buffer.
 pub fn write(n: usize, entries: &[u8], room: usize) -> Result<Vec<u8>, Refusal> {
     if n > LARGEST {
         return refused(3, 1);

@@ -1,7 +1,7 @@
 //! The second way to every answer: all matchings of a book are listed, the stable ones kept, and each answer is found
-//! among them by document 01's definitions, word by word. No fast algorithm is wanted here, and nothing is shared with
-//! the library or with the crate `independent`. Listing is meant for n up to 7; the book's rules and the writer go up
-//! to 64.
+//! among them by document 01's definitions, word by word. No fast algorithm is wanted here, and nothing is shared
+//! with the library or with the crate `independent`. Listing is meant for n up to 7; the book's rules and the writer
+//! go up to 64.
 //!
 //! Document 01's students are men here and its mentors women, as in its source. Quotation marks hold its sentences.
 //!

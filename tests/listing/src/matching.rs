@@ -1,5 +1,5 @@
-//! Matchings: "A matching is n bytes that break no rule tried on a matching before 10, here 8 and 9; byte i is the mentor
-//! of student i."
+//! Matchings: "A matching is n bytes that break no rule tried on a matching before 10, here 8 and 9; byte i is the
+//! mentor of student i."
 
 use crate::people::{Man, Woman};
 use crate::reply::{refused, Refusal};
@@ -9,8 +9,8 @@ use crate::reply::{refused, Refusal};
 pub struct Matching(Vec<Woman>);
 
 impl Matching {
-    /// The matching of n that the bytes are, or the first of rules 8 and 9 that they break: "matching is not n bytes";
-    /// "mentor n or more, or used by an earlier byte", at the "first such byte".
+    /// The matching of n that the bytes are, or the first of rules 8 and 9 that they break: "matching is not n
+    /// bytes"; "mentor n or more, or used by an earlier byte", at the "first such byte".
     pub fn read(n: usize, bytes: &[u8]) -> Result<Matching, Refusal> {
         if bytes.len() != n {
             return refused(8, 0);
@@ -61,7 +61,7 @@ pub fn all(n: usize) -> Vec<Matching> {
     found
 }
 
-/// Adds the matchings in which the first men have the women of `begun`: one more man is given each woman that is left.
+/// Adds the matchings in which the first men have the women of `begun`: the next man is given each woman left.
 fn add_those_beginning_with(begun: &mut Vec<Woman>, n: usize, found: &mut Vec<Matching>) {
     if begun.len() == n {
         found.push(Matching(begun.clone()));

@@ -42,8 +42,8 @@ impl Listing {
         self.stable().iter().all(|x| x.holds(man, given.woman_of(man)))
     }
 
-    /// "Repair up: of the stable matchings without the pair in which no student is worse off than in the given one, that
-    /// in which each student has the lowest-ranked mentor that any of these gives."
+    /// "Repair up: of the stable matchings without the pair in which no student is worse off than in the given one,
+    /// that in which each student has the lowest-ranked mentor that any of these gives."
     pub fn repair_up(&self, given: &Matching, man: Man) -> Option<&Matching> {
         let mut these = self.without_pair(given, man);
         these.retain(|x| self.lists.no_man_worse_off(x, given));
@@ -86,8 +86,8 @@ impl Listing {
         not_fixed.map(|man| self.answer(given, man).distance() - 1).max().unwrap_or(0)
     }
 
-    /// The fewest students that a stable matching without the man's pair moves, or none where the pair is fixed: demand 3
-    /// says that the answer's distance is this.
+    /// The fewest students that a stable matching without the man's pair moves, or none where the pair is fixed:
+    /// demand 3 says that the answer's distance is this.
     pub fn fewest_moved(&self, given: &Matching, man: Man) -> Option<usize> {
         self.without_pair(given, man).iter().map(|x| x.distance(given)).min()
     }

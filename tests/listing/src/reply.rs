@@ -1,7 +1,7 @@
 //! What a call answers: a result, or the refusal by the first rule that the input breaks.
 
-/// A broken rule of the table "Refused, by number": "Results carry number and place". Rule 10 alone has a second place;
-/// it is 0 for every other.
+/// A broken rule of the table "Refused, by number": "Results carry number and place". Rule 10 alone has a second
+/// place; it is 0 for every other.
 #[derive(Clone, Copy, Debug, PartialEq, Eq)]
 pub struct Refusal {
     pub number: usize,
@@ -9,7 +9,7 @@ pub struct Refusal {
     pub second: usize,
 }
 
-/// What stands in the reply beside the result buffers where nothing is refused; 0 and no letter where a call has none.
+/// What a reply carries beside the result buffers where nothing is refused; 0 and no letter where a call has none.
 #[derive(Clone, Copy, Debug, Default, PartialEq, Eq)]
 pub struct Granted {
     pub place: usize,

@@ -62,8 +62,8 @@ impl Rotation {
 }
 
 impl Listing {
-    /// All rotations by number: "Begin with the student-best matching. Of the rotations exposed, eliminate the one that
-    /// holds the lowest student number; go on until none is exposed."
+    /// All rotations by number: "Begin with the student-best matching. Of the rotations exposed, eliminate the one
+    /// that holds the lowest student number; go on until none is exposed."
     pub fn rotations(&self) -> Vec<Rotation> {
         let mut matching = self.student_best().clone();
         let mut numbered = Vec::new();

@@ -1,5 +1,5 @@
-//! Runs of eliminations from the student-best matching, and what document 01 says by them: which rotation precedes which,
-//! closed sets, the matching of a set and the set of a matching.
+//! Runs of eliminations from the student-best matching, and what document 01 says by them: which rotation precedes
+//! which, closed sets, the matching of a set and the set of a matching.
 
 use crate::matching::Matching;
 use crate::rotation::Rotation;
@@ -43,8 +43,8 @@ impl Runs {
         Runs { rotations, runs }
     }
 
-    /// "One rotation precedes another if every run of eliminations from the student-best matching that exposes the second
-    /// has eliminated the first"; "no rotation precedes itself".
+    /// "One rotation precedes another if every run of eliminations from the student-best matching that exposes the
+    /// second has eliminated the first"; "no rotation precedes itself".
     pub fn precedes(&self, first: usize, second: usize) -> bool {
         let mut exposing = self.runs.iter().filter(|run| run.exposed.contains(&second));
         first != second && exposing.all(|run| run.eliminated[first] == 1)

@@ -24,8 +24,8 @@ pub fn text(input: &[u8]) -> String {
     }
 }
 
-/// The lines: "Line one: n, rotations, grade. Then student, mentor, letter (U up, D down, F fixed) and distance, 0 for F.
-/// One space parts fields; a line feed ends a line."
+/// The lines: "Line one: n, rotations, grade. Then student, mentor, letter (U up, D down, F fixed) and distance, 0
+/// for F. One space parts fields; a line feed ends a line."
 fn lines(asked: &Asked, given: &Matching) -> String {
     let listing = asked.listing();
     let n = listing.lists.n();

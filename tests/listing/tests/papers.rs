@@ -1,5 +1,5 @@
-//! The listing against the papers: the cases of document 01 that are checked by hand, and Tables 1 to 3 of document 000.
-//! Every expected value stands in one of them.
+//! The listing against the papers: the cases of document 01 that are checked by hand, and Tables 1 to 3 of document
+//! 000. Every expected value stands in one of them.
 
 use listing::asked::{book_size, sheet, write_book, Asked};
 use listing::matching::Matching;
@@ -48,12 +48,14 @@ fn matching_5() -> Matching {
     Matching::read(7, &MATCHING_5).expect("a matching")
 }
 
+/// "2 for n = 0, 12 for n = 1, 156 for n = 7, 8,706 for n = 64"; 65 is over 64.
 #[test]
 fn sizes_of_books() {
     assert_eq!([0, 1, 7, 64].map(book_size), [2, 12, 156, 8706].map(granted));
     assert_eq!(book_size(65), refused(3, 1));
 }
 
+/// Books written out by hand from the section "The book".
 #[test]
 fn books_as_bytes() {
     assert_eq!(book_of(0, ""), [1, 0]);
@@ -64,6 +66,7 @@ fn books_as_bytes() {
     assert_eq!(TABLE_1_AND_MATCHING_5[156..], MATCHING_5);
 }
 
+/// "A 156-byte book is read for n = 7; 155 gives 1, 157 gives 4"; "n = 64 is read; byte 1 = 65 is refused 3".
 #[test]
 fn books_that_are_too_short_too_long_or_too_large() {
     assert_eq!(Asked::new(table_1()).check_book(), granted(7));
@@ -77,12 +80,14 @@ fn books_that_are_too_short_too_long_or_too_large() {
     assert_eq!(Asked::new(&book).check_book(), refused(3, 1));
 }
 
+/// The cases n = 0 and n = 1.
 #[test]
 fn nobody_and_one_pair() {
     assert_eq!(sheet_of(&book_of(0, ""), &[]), "0 0 0\n");
     assert_eq!(sheet_of(&book_of(1, "0 0"), &[0]), "1 0 0\n0 0 F 0\n");
 }
 
+/// "Two by two: students 0 1 and 1 0, mentors 1 0 and 0 1."
 #[test]
 fn two_by_two() {
     let book = book_of(2, "01 10 10 01");
@@ -90,6 +95,7 @@ fn two_by_two() {
     assert_eq!(sheet_of(&book, &[1, 0]), "2 1 1\n0 1 U 2\n1 0 U 2\n");
 }
 
+/// "students 0 1 and 0 1, mentors 0 1 and 0 1, matching 1 0: refused 10, student 0, mentor 0".
 #[test]
 fn a_blocking_pair() {
     let book = book_of(2, "01 01 01 01");
@@ -98,6 +104,7 @@ fn a_blocking_pair() {
     assert_eq!(sheet_of(&book, &[1, 0]), "refused 10\n");
 }
 
+/// "student-best: 5 4 6 3 1 0 2", "mentor-best: 1 3 0 5 4 2 6", "eleven stable matchings".
 #[test]
 fn table_1_stable_matchings_and_extremes() {
     let asked = Asked::new(table_1());
@@ -109,6 +116,7 @@ fn table_1_stable_matchings_and_extremes() {
     assert_eq!(out, [1, 3, 0, 5, 4, 2, 6]);
 }
 
+/// "rotation 1 is (1,4) (6,5) (5,0)", "set 0, 1, 2 gives 4 5 6 3 1 2 0", "set 2 alone is refused 16".
 #[test]
 fn table_1_rotations_and_sets() {
     let asked = Asked::new(table_1());
@@ -144,6 +152,7 @@ const TABLE_2: [Row2; 7] = [
     ((6, 0), Some(1), Some(4), Some("0"), Some("0124")),
 ];
 
+/// The rotations that produce and eliminate each pair of M5.
 #[test]
 fn table_2_rotations_of_each_pair() {
     let asked = Asked::new(table_1());
@@ -170,6 +179,7 @@ const TABLE_3: [(Option<usize>, Option<usize>, usize); 7] = [
     (Some(4), Some(2), 1),
 ];
 
+/// The repairs of each pair of M5 are those of Table 2's sets and have Table 3's distances.
 #[test]
 fn tables_2_and_3_repairs_of_each_pair() {
     let asked = Asked::new(table_1());
@@ -190,6 +200,7 @@ fn tables_2_and_3_repairs_of_each_pair() {
     }
 }
 
+/// The sheet that stands in the section "The sheet", and the grade of "a (1,3)-supermatch".
 #[test]
 fn table_1_sheet() {
     let due = "7 6 3\n0 4 U 2\n1 5 U 4\n2 6 D 2\n3 3 D 4\n4 1 D 2\n5 2 U 2\n6 0 D 2\n";
@@ -197,7 +208,8 @@ fn table_1_sheet() {
     assert_eq!(Asked::new(table_1()).grade(&MATCHING_5), granted(3));
 }
 
-/// Table 3's repair up of man 0 is that of the set 0, 1; its gains by Table 1: man 0 goes from 4 to 2, man 5 from 2 to 4.
+/// The repair up of man 0 is the set 0, 1 (Table 2), without rotation 2, which gave 4 to man 0 and 2 to man 5; by their
+/// lists in Table 1 each gains a place when they exchange.
 #[test]
 fn table_1_places_gained() {
     let (mut out, mut gains) = ([0; 7], [9; 7]);

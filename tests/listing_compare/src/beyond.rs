@@ -1,4 +1,4 @@
-//! The second part: each rule of document 01's table on every call that has it, with its place, on a selection of books.
+//! The second part: each rule of document 01's table, with its place, on every call that has it, for fewer books.
 
 use crate::both::Both;
 use crate::draw::Draw;

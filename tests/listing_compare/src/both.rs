@@ -1,5 +1,5 @@
-//! Each call on the archive and on the listing, with equal inputs and equal result buffers, compared in every field of
-//! the reply and in every byte of the buffers and of the guard bytes around them.
+//! Each call on the archive and on the listing, with equal inputs and equal result buffers, compared in every field
+//! of the reply and in every byte of the buffers and of the guard bytes around them.
 
 use crate::lent::Lent;
 use crate::tally::{Call, Tally};

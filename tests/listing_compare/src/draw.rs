@@ -26,7 +26,7 @@ pub fn factorial(n: usize) -> usize {
     (1..=n).product()
 }
 
-/// Permutation number k of 0 to n − 1: each entry from the last to the second is exchanged with one of those up to it.
+/// Permutation number k of 0 to n − 1: each entry from the last to the second is exchanged with one up to itself.
 pub fn permutation(n: usize, k: usize) -> Vec<u8> {
     let mut entries: Vec<u8> = (0..n as u8).collect();
     let mut rest = k;

@@ -25,8 +25,8 @@ pub enum Kind {
     Random,
     /// Man i ranks woman w by w − i modulo n, and she him by the contrary: n stable matchings.
     Cyclic,
-    /// Man i ranks woman w by the exclusive or of i and w, and she him by the contrary: 10, 12 and 32 stable matchings
-    /// for n = 4, 5 and 6.
+    /// Man i ranks woman w by the exclusive or of i and w, and she him by the contrary: 10, 12 and 32 stable
+    /// matchings for n = 4, 5 and 6.
     Xor,
 }
 
@@ -74,11 +74,11 @@ pub fn drawn(kind: Kind, n: usize, draw: &mut Draw) -> Vec<u8> {
             lists[person * n + place] = names[usize::from(entry)];
         }
     };
-    for x in 0..n {
-        put(usize::from(men[x]), kind.man_list(n, x, draw), &women);
+    for (x, &man) in men.iter().enumerate() {
+        put(usize::from(man), kind.man_list(n, x, draw), &women);
     }
-    for x in 0..n {
-        put(n + usize::from(women[x]), kind.woman_list(n, x, draw), &men);
+    for (x, &woman) in women.iter().enumerate() {
+        put(n + usize::from(woman), kind.woman_list(n, x, draw), &men);
     }
     exchange_neighbours(&mut lists, n, draw);
     lists

@@ -1,7 +1,7 @@
 //! Holds the archive against the listing of all matchings, in two parts: every book for n up to 3 and drawn ones for
 //! n = 4 to 6 with sound questions; and, on fewer books, whatever breaks a rule. Prints how much was compared and how
-//! often each rule was met. Exits with 1 on any difference, or where a call never gave a result or never met one of its
-//! rules, or no sheet printed a refusal that it can.
+//! often each rule was met. Exits with 1 on any difference, or where a call never gave a result or never met one of
+//! its rules, or no sheet printed a refusal that it can.
 
 mod beyond;
 mod books;
@@ -23,6 +23,7 @@ use both::Both;
 use std::process::ExitCode;
 use tally::Tally;
 
+/// Runs both parts and prints their counts.
 fn main() -> ExitCode {
     let mut sound = Both::default();
     sound.ask_small_books();

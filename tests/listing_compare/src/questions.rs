@@ -1,5 +1,5 @@
-//! What is asked of every book: the extremes, the rotations and their order, sets, and of its matchings the check, the
-//! repairs of all pairs, the grade, the set and the sheet. Result buffers are long enough.
+//! What is asked of every book: the extremes, the rotations and their order, sets, and of its matchings the check,
+//! the repairs of all pairs, the grade, the set and the sheet. Result buffers are long enough.
 
 use crate::both::Both;
 use listing::asked::Asked;
@@ -84,7 +84,8 @@ impl Both {
         }
     }
 
-    /// Asks for the repair of a man's pair, which moves as few students as any, and of him with the woman after his own.
+    /// Asks for the repair of a man's pair, which moves as few students as any, and of him with the woman after his
+    /// own.
     fn ask_pair(&mut self, book: &Asked, stable: &Matching, matching: &[u8], man: Man) {
         let woman = stable.woman_of(man);
         let due = self.repair(book, matching, &[man.0, woman.0], ROOM, ROOM);

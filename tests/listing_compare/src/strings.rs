@@ -4,8 +4,8 @@ use crate::both::Both;
 use listing::asked::Asked;
 
 impl Both {
-    /// Asks of bytes of every length to n + 2; for n up to 3 of all bytes of length n from 0 to n and 255, else of each
-    /// stable matching with one byte changed and with two exchanged.
+    /// Asks of bytes of every length to n + 2; for n up to 3 of all bytes of length n from 0 to n and 255, else of
+    /// each stable matching with one byte changed and with two exchanged.
     pub fn ask_strings(&mut self, book: &Asked, n: usize) {
         let counted: Vec<u8> = (0..n as u8 + 2).collect();
         for length in 0..=n + 2 {

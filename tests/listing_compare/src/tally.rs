@@ -98,8 +98,8 @@ impl Tally {
         }
     }
 
-    /// The calls that never gave a result or were never refused by a rule that they have, and the refusals that no sheet
-    /// printed; rule 4 does not occur in a sheet.
+    /// The calls that never gave a result or were never refused by a rule that they have, and the refusals that no
+    /// sheet printed; rule 4 does not occur in a sheet.
     pub fn missing(&self) -> Vec<String> {
         let mut missing = Vec::new();
         for (call, takes_book, others) in CALLS {
@@ -128,5 +128,37 @@ impl Tally {
             eprintln!("{MANY} differences: the comparison ends here");
             std::process::exit(1);
         }
+    }
+}
+
+#[cfg(test)]
+mod tests {
+    use super::*;
+
+    /// A tally in which every call has met each of its rules, and every refusal that a sheet can print was printed.
+    fn complete() -> Tally {
+        Tally { met: [[1; 17]; 15], printed: [1; 17], ..Tally::default() }
+    }
+
+    /// What was never met is missed, and nothing else.
+    #[test]
+    fn what_was_never_met_is_missing() {
+        assert!(complete().missing().is_empty());
+        let mut tally = complete();
+        tally.met[Call::Repair as usize][12] = 0;
+        assert_eq!(tally.missing(), ["Repair by rule 12"]);
+        tally.printed[9] = 0;
+        assert_eq!(tally.missing().len(), 2);
+        for rule in 1..=16 {
+            let mut tally = complete();
+            tally.met.iter_mut().for_each(|rules| rules[rule] = 0);
+            assert!(!tally.missing().is_empty(), "rule {rule}");
+        }
+    }
+
+    /// The calls stand in the table in the order of their numbers.
+    #[test]
+    fn calls_stand_in_order() {
+        assert!(CALLS.iter().enumerate().all(|(at, (call, ..))| *call as usize == at));
     }
 }

@@ -6,7 +6,7 @@ use listing::asked::Asked;
 use listing::book;
 
 impl Both {
-    /// Writes the book of these lists, and of lists that are cut, lengthened or changed, and with an n that is not theirs.
+    /// Writes the book of these lists, of lists that are cut, lengthened or changed, and with an n that is not theirs.
     pub fn ask_writer(&mut self, n: usize, lists: &[u8]) {
         let size = book::size(n);
         for room in 0..=size + 2 {
@@ -40,7 +40,8 @@ impl Both {
         }
     }
 
-    /// Writes and checks the largest book, and the same with its last entry changed, short of a byte and with one more n.
+    /// Writes and checks the largest book, also with too little room, short of a byte, with its last entry changed, and
+    /// with n one more.
     pub fn ask_largest(&mut self) {
         let mut lists: Vec<u8> = (0..2 * book::LARGEST).flat_map(|_| 0..book::LARGEST as u8).collect();
         let size = book::size(book::LARGEST);
