@@ -11,12 +11,12 @@ use Rattle.stable_theory.specs.Least.Settle.{least}
 use Rattle.stable_theory.specs.Stable.Lattice.{stable-below}
 use Rattle.stable_theory.specs.Least.LeastLaws.{least-least, least-unique}
 use Rattle.stable_theory.specs.Least.Beaten.{step-sound}
-use Rattle.deferred.specs.Answers.{BeatenIs, HeldIs}
-use Rattle.deferred.specs.Best.{Best}
-use Rattle.deferred.specs.Turn.{Ready, Ran, ready-turns}
-use Rattle.deferred.specs.Settling.{Settling, settled-end, settling-turns, turns-after}
-use Rattle.deferred.specs.Whole.{Whole, whole-stable, whole-mirror, stable-whole}
-use Rattle.deferred.specs.Gap.{None}
+use Rattle.proposals.specs.Answers.{BeatenIs, HeldIs}
+use Rattle.proposals.specs.Best.{Best}
+use Rattle.proposals.specs.Turn.{Ready, Ran, ready-turns}
+use Rattle.proposals.specs.Settling.{Settling, settled-end, settling-turns, turns-after}
+use Rattle.proposals.specs.Whole.{Whole, whole-stable, whole-mirror, stable-whole}
+use Rattle.proposals.specs.Gap.{None}
 
 -- The answer from the start q: p′ is the least settled vector at or after q, t′ has the best rank of those who reach each receiver,
 -- and the answer says whether p′ is stable; then t′ is its other side

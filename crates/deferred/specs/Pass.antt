@@ -8,7 +8,7 @@ use Rattle.laws.specs.Choice.{split, same}
 use Rattle.stable_theory.specs.Stable.Market.{Market, Proper}
 use Rattle.stable_theory.specs.Stable.Vector.{Reaches}
 use Rattle.stable_theory.specs.Stable.Holding.{accept-at}
-use Rattle.deferred.specs.Best.{Best, Visited, best-same, best-visit}
+use Rattle.proposals.specs.Best.{Best, Visited, best-same, best-visit}
 
 -- j reaches w under p, and the pass has come by there when it is at place k of proposer i
 pub record Passed (I : Market) (p : ℕ → ℕ) (i k j w : ℕ) : Type 0 where

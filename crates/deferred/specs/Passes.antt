@@ -6,8 +6,8 @@ use mathlib.Core.List.{List}
 use native.Mathlib.Omega.{arith}
 use Rattle.laws.specs.Table.{cell}
 use Rattle.laws.specs.Values.{vec}
-use Rattle.deferred.specs.Lists.{Tables, marketOf}
-use Rattle.deferred.specs.Best.{Best, Lowered}
+use Rattle.proposals.specs.Lists.{Tables, marketOf}
+use Rattle.proposals.specs.Best.{Best, Lowered}
 use Rattle.deferred.specs.Pass.{Passed, pass-visit, pass-row}
 
 -- if t has the best ranks of those passed at place k of i, then t′ has those of the ones passed at place l of j

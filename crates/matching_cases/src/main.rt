@@ -1,9 +1,9 @@
-// Runs the calls of crate `matching` on cases that stand one after the other on standard input. A case is the call, a count, the length of the
+// Runs the calls on matchings on cases that stand one after the other on standard input. A case is the call, a count, the length of the
 // book in two bytes, low byte first, and the book. Call 0 is the student-best and call 1 the mentor-best matching, with a result buffer of
 // `count` bytes, each 255 before the call. Call 2 is the check of a matching, whose `count` bytes follow the book.
 // Prints a line for each: the number of the broken rule and its two places, or `0 0 0`, and then the bytes of the result buffer.
 // It takes 65,536 bytes of input.
-use instance::Checked;
+use format::Checked;
 use libc::STDIN_FILENO;
 use libc::STDOUT_FILENO;
 ghost use Prim.Native.Nat.{_<_, _≤_};
@@ -45,7 +45,7 @@ fn run(call: u8, count: usize, book: &[u8], matching: &[u8])
     requires { ⌜ count < 256 ⌝ }
 {
     if call == 2 {
-        print_answer(matching::check(book, matching));
+        print_answer(stability::check(book, matching));
         end_line();
         return;
     }
@@ -62,9 +62,9 @@ fn run_in(call: u8, book: &[u8], out: &mut [u8]) {
 // The extreme matching that is asked for.
 fn extreme(call: u8, book: &[u8], out: &mut [u8]) -> Checked {
     if call == 0 {
-        return matching::man_optimal(book, out);
+        return extremes::man_optimal(book, out);
     }
-    matching::woman_optimal(book, out)
+    extremes::woman_optimal(book, out)
 }
 
 // A byte as a number.

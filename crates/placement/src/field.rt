@@ -1,7 +1,7 @@
 // Numbers of a book that a reply carries: fields, for any bytes, of which those past the end count as 0.
 ghost use mathlib.Core.Path.{_≡_};
 ghost use Prim.Native.Nat.{_+_, _<_};
-ghost use Rattle.instance.specs.Format.{byte, word, people, offset, listLength};
+ghost use Rattle.format.specs.Format.{byte, word, people, offset, listLength};
 
 // Byte k.
 fn byte_at(book: &[u8], k: usize) -> usize
@@ -10,7 +10,7 @@ fn byte_at(book: &[u8], k: usize) -> usize
     if book.len() <= k {
         return 0;
     }
-    instance::wide(book[k])
+    book::wide(book[k])
 }
 
 // Two bytes from k on, low byte first.

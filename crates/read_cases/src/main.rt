@@ -1,6 +1,6 @@
 // Checks books that stand one after the other on standard input, each as its length in two bytes, low byte first, and its bytes.
 // Prints a line for each: the number of the rule that the book breaks and the place given, or `0 0`. It takes 65,536 bytes of input.
-use instance::Checked;
+use format::Checked;
 use libc::STDIN_FILENO;
 use libc::STDOUT_FILENO;
 ghost use Prim.Native.Nat.{_<_};
@@ -21,7 +21,7 @@ fn check_all(input: &[u8]) {
             return;
         }
         let end = start + len;
-        print_answer(instance::check(&input[start..end]));
+        print_answer(book::check(&input[start..end]));
         at = end;
     }
 }

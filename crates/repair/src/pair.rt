@@ -1,33 +1,26 @@
 // Repair of a pair: the request's rules, the nearest repair, and the two result buffers.
-use crate::Answer;
-use crate::Letter;
-use crate::Nearest;
-use crate::Repair;
-use crate::gains::write_gains;
-use crate::vectors::nearest;
-use instance::Checked;
-use instance::Instance;
-use instance::refuse;
-use instance::wide;
-use matching::Places;
-use matching::judge;
-use matching::write_matching;
+use book::refuse;
+use book::wide;
+use format::Checked;
+use format::Instance;
+use matchings::Places;
+use nearest::Nearest;
+use nearest::nearest;
+use record::load;
+use repair_answer::answer;
+use repairs::Answer;
+use stability::judge;
 ghost use mathlib.Core.Path.{_≡_};
-ghost use mathlib.Core.List.{_++_};
 ghost use Prim.Native.Nat.{_≤_, _<_};
-ghost use lib.ListN.{length, drop};
-ghost use Rattle.laws.specs.Difference.{less};
-ghost use Rattle.laws.specs.Table.{cell};
-ghost use Rattle.laws.specs.Values.{vec, values};
-ghost use Rattle.instance.specs.Record.{recordOf};
-ghost use Rattle.instance.specs.Verdict.{verdictOf};
+ghost use lib.ListN.{length};
+ghost use Rattle.laws.specs.Values.{vec};
+ghost use Rattle.format.specs.Record.{recordOf};
+ghost use Rattle.format.specs.Verdict.{verdictOf};
 ghost use Rattle.stable_theory.specs.Repairs.Answer.{answerOf};
-ghost use Rattle.matching.specs.ExtremeBytes.{Writable};
-ghost use Rattle.deferred.specs.Lists.{marketOf};
-ghost use Rattle.repair.specs.Shown.{Small, shownReply, shownIf};
-ghost use Rattle.repair.specs.Nearest.{GivenIn, Shows};
-ghost use Rattle.repair.specs.Repair.{fixed, replyOf, replyIf, repairReply, repairMatching, repairGains};
-ghost use Rattle.repair.specs.Request.{checkPair};
+ghost use Rattle.proposals.specs.Lists.{marketOf};
+ghost use Rattle.nearest.specs.Nearest.{GivenIn, Shows};
+ghost use Rattle.repairs.specs.Repair.{fixed, replyOf, replyIf, repairReply, repairMatching, repairGains};
+ghost use Rattle.repairs.specs.Request.{checkPair};
 
 // The repair of the pair that the request names, student then mentor, or the first rule that is broken and where. A repair's matching goes to
 // the front of `out` and each student's places gained to that of `gains`; past n entries, and otherwise, both stay as they were.
@@ -42,7 +35,7 @@ pub fn repair(
     ensures bytes { λ _. ⌜ now (out .exit) ≡ repairMatching (now (book .entry)) (now (matching .entry)) (now (request .entry)) (now (out .entry)) (now (gains .entry)) ⌝ }
     ensures places { λ _. ⌜ now (gains .exit) ≡ repairGains (now (book .entry)) (now (matching .entry)) (now (request .entry)) (now (out .entry)) (now (gains .entry)) ⌝ }
 {
-    let loaded = Instance::load(book);
+    let loaded = load(book);
     let read = loaded.checked;
     let n = loaded.instance.n;
     let judged = judge(
@@ -154,38 +147,4 @@ fn nearest_in<'a>(
         none,
         s,
     )
-}
-
-// The answer for the nearest repair: its matching and the places gained from `men` are written, unless the pair is fixed.
-fn answer(
-    n: usize,
-    lists: &[u16],
-    men: [u16; Instance::LARGEST],
-    found: Nearest,
-    out: &mut [u8],
-    gains: &mut [i8],
-) -> Answer
-    requires { ⌜ Writable n (now lists) (found .men) (now out) ⌝ }
-    requires { ⌜ (Small n men) × (Small n (found .men)) ⌝ }
-    requires { ⌜ n ≤ length (now gains) ⌝ }
-    ensures reply { λ r. ⌜ replyOf r ≡ shownReply (found .letter) (found .distance) ⌝ }
-    ensures bytes { λ _. ⌜ now (out .exit) ≡ shownIf (found .letter) (values (λ i. cell (now (lists .entry)) n i (vec (found .men) i)) 0 n ++ drop n (now (out .entry))) (now (out .entry)) ⌝ }
-    ensures places { λ _. ⌜ now (gains .exit) ≡ shownIf (found .letter) (values (λ i. less (vec men i) (vec (found .men) i)) 0 n ++ drop n (now (gains .entry))) (now (gains .entry)) ⌝ }
-{
-    let letter = found.letter;
-    let distance = found.distance;
-    let places = found.men;
-    match letter {
-        Letter::Up => {
-            write_matching(n, lists, &places, out);
-            write_gains(n, &men, &places, gains);
-            Answer::Up(Repair { distance })
-        }
-        Letter::Down => {
-            write_matching(n, lists, &places, out);
-            write_gains(n, &men, &places, gains);
-            Answer::Down(Repair { distance })
-        }
-        Letter::Fixed => Answer::Fixed,
-    }
 }

@@ -1,14 +1,14 @@
-// Runs the calls of crate `repair` on cases that stand one after the other on standard input. A case is the call, 0 for the repair of a pair and
+// Runs the calls on repairs on cases that stand one after the other on standard input. A case is the call, 0 for the repair of a pair and
 // 1 for the grade, the room of the two result buffers, the lengths of the request and of the matching, that of the book in two bytes, low byte
 // first, and then the request, the matching and the book.
 // Prints a line for each. For a repair: U or D with the distance, F, or `refused` with the number of the broken rule and its two places;
 // then, each after a colon, the bytes of the matching's buffer, each 255 before the call, and the entries of the buffer of the places
 // gained, each 100 before it. For the grade: `grade` and the grade, or the refusal. It takes 65,536 bytes of input.
-use instance::Refusal;
+use format::Refusal;
 use libc::STDIN_FILENO;
 use libc::STDOUT_FILENO;
-use repair::Answer;
-use repair::Graded;
+use repairs::Answer;
+use repairs::Graded;
 ghost use Prim.Native.Nat.{_<_};
 
 fn main() {
@@ -48,7 +48,7 @@ fn run(call: u8, room: usize, gains_room: usize, request: &[u8], matching: &[u8]
     requires { ⌜ (room < 256) × («gains_room» < 256) ⌝ }
 {
     if call == 1 {
-        print_grade(repair::grade(book, matching));
+        print_grade(grade::grade(book, matching));
         end_line();
         return;
     }

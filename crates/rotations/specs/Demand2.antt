@@ -1,14 +1,14 @@
 -- The second half of demand 2: "the rotations and their order are those of the published theory, and going from a closed set of rotations to
--- its matching and back, or the reverse, returns the start", in the words that the contracts of src/ cite. Each proof is a citation of the
+-- its matching and back, or the reverse, returns the start", in the words that the contracts cite. Each proof is a citation of the
 -- theory (stable_theory, Rotations.Demand2Theory) at the market of a book, or of ThereAndBack. Assumes nothing.
 use Prim.Native.Nat.{ℕ, _≤_, _<_}
 use mathlib.Core.Path.{_≡_}
 use mathlib.Core.Bool.{true}
 use mathlib.Core.List.{List}
 use mathlib.Core.Logic.{_↔_}
-use Rattle.instance.specs.Verdict.{fine}
-use Rattle.instance.specs.Format.{people}
-use Rattle.instance.specs.WellFormed.{WellFormed, fine-well-formed}
+use Rattle.format.specs.Verdict.{fine}
+use Rattle.format.specs.Format.{people}
+use Rattle.format.specs.WellFormed.{WellFormed, fine-well-formed}
 use Rattle.stable_theory.specs.Stable.Vector.{Stable}
 use Rattle.stable_theory.specs.Least.Optimal.{proposer-optimal}
 use Rattle.stable_theory.specs.Rotations.Rotation.{Rotation, Exposed, SamePairs, Run, Among, Precedes}
@@ -17,9 +17,9 @@ use Rattle.stable_theory.specs.Rotations.Subset.{Closed, prefix}
 use Rattle.stable_theory.specs.Rotations.Canonical.{Canonical}
 use Rattle.stable_theory.specs.Rotations.Demand2Theory.{numbering, numbering-ends, numbering-all, numbering-once, precedence-test, precedence-irreflexive, closed-test, theorem-1-run, theorem-1-exactly, theorem-1-once, theorem-1-nothing-else}
 use Rattle.stable_theory.specs.Rotations.Runs.{Once}
-use Rattle.matching.specs.BookMarket.{market, market-proper}
-use Rattle.matching.specs.Matching.{vectorOf, checkMatching}
-use Rattle.matching.specs.StableVector.{fine-vector}
+use Rattle.matchings.specs.BookMarket.{market, market-proper}
+use Rattle.matchings.specs.Matching.{vectorOf, checkMatching}
+use Rattle.matchings.specs.StableVector.{fine-vector}
 use Rattle.rotations.specs.RotationList.{rotationCount}
 use Rattle.rotations.specs.Precedence.{bookPrecedes}
 use Rattle.rotations.specs.Sets.{member, closedSet, checkSet, setMatching, matchingSet}

@@ -1,23 +1,3 @@
--- What the contracts inside the crate and the proofs cite: from the numbers of the code to the bytes of the definitions. Assumes nothing.
-pub mod Pointers
-pub mod NextCode
-pub mod CycleCode
-pub mod Written
-pub mod EliminateCode
-pub mod WriteCode
-pub mod RunCode
-pub mod Numbers
-pub mod ListBytes
-pub mod Replies
-pub mod BookList
-pub mod ListRead
-pub mod MatchingSets
-pub mod Required
-pub mod BookOrder
-pub mod SetCode
-pub mod Over
-pub mod PlaceTests
-pub mod SetPlaces
-pub mod BookSets
+-- What Demand2 cites: when a set is accepted, and both ways between sets and matchings. Assumes nothing.
 pub mod SetVerdict
 pub mod ThereAndBack

@@ -4,14 +4,14 @@ use mathlib.Core.Bool.{Bool, true, false}
 use mathlib.Core.List.{List}
 use lib.Dec.{leb}
 use Rattle.laws.specs.Choice.{either}
-use Rattle.instance.specs.Verdict.{Verdict, fine, refused, rule, andThen}
-use Rattle.instance.specs.Check.{checkBook}
+use Rattle.format.specs.Verdict.{Verdict, fine, refused, rule, andThen}
+use Rattle.format.specs.Check.{checkBook}
 use Rattle.stable_theory.specs.Rotations.Numbering.{rotation}
 use Rattle.stable_theory.specs.Rotations.Subset.{precedes}
-use Rattle.matching.specs.BookMarket.{market}
+use Rattle.matchings.specs.BookMarket.{market}
 use Rattle.rotations.specs.RotationList.{rotationCount}
-use Rattle.rotations.specs.declared.order.Precedence.{Precedence}
-use Rattle.rotations.specs.declared.order.Precedence.the-variants.{Yes, No, Refused}
+use Rattle.rotations.specs.declared.answer.Precedence.{Precedence}
+use Rattle.rotations.specs.declared.answer.Precedence.the-variants.{Yes, No, Refused}
 
 -- The verdict on two rotation numbers: the book, 11
 unfoldable pub checkNumbers : List ℕ → ℕ → ℕ → Verdict

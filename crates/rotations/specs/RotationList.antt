@@ -4,13 +4,13 @@ use Prim.Native.Nat.{ℕ, zero, suc}
 use mathlib.Core.List.{List, [], _∷_, _++_}
 use lib.ListN.{length}
 use lib.Dec.{ltb}
-use Rattle.instance.specs.Verdict.{Verdict, fine, refused, rule, andThen}
-use Rattle.instance.specs.Check.{checkBook}
+use Rattle.format.specs.Verdict.{Verdict, fine, refused, rule, andThen}
+use Rattle.format.specs.Check.{checkBook}
 use Rattle.stable_theory.specs.Rotations.Rotation.{Rotation}
 use Rattle.stable_theory.specs.Rotations.Numbering.{total, rotation}
-use Rattle.matching.specs.BookMarket.{market}
-use Rattle.rotations.specs.declared.listing.Listed.{Listed}
-use Rattle.rotations.specs.declared.listing.Listed.the-variants.{Count, Refused}
+use Rattle.matchings.specs.BookMarket.{market}
+use Rattle.rotations.specs.declared.answer.Listed.{Listed}
+use Rattle.rotations.specs.declared.answer.Listed.the-variants.{Count, Refused}
 
 -- Student and mentor of each of n pairs from pair k on
 abbrev pub pairBytes : Rotation → ℕ → ℕ → List ℕ

@@ -7,15 +7,15 @@ use lib.Dec.{ltb, eqb}
 use Rattle.laws.specs.Choice.{pick, either}
 use Rattle.laws.specs.First.{some}
 use Rattle.laws.specs.Values.{values}
-use Rattle.instance.specs.Verdict.{Verdict, fine, rule, andThen}
-use Rattle.instance.specs.Format.{byte, people}
-use Rattle.instance.specs.Check.{checkBook}
+use Rattle.format.specs.Verdict.{Verdict, fine, rule, andThen}
+use Rattle.format.specs.Format.{byte, people}
+use Rattle.format.specs.Check.{checkBook}
 use Rattle.stable_theory.specs.Rotations.Numbering.{rotation}
 use Rattle.stable_theory.specs.Rotations.Subset.{setOf, closed}
 use Rattle.stable_theory.specs.Rotations.Subset
-use Rattle.matching.specs.BookMarket.{market}
-use Rattle.matching.specs.Matching.{vectorOf, checkMatching}
-use Rattle.matching.specs.Extreme.{matchingOf}
+use Rattle.matchings.specs.BookMarket.{market}
+use Rattle.matchings.specs.Matching.{vectorOf, checkMatching}
+use Rattle.matchings.specs.Extreme.{matchingOf}
 use Rattle.rotations.specs.RotationList.{rotationCount, thenRoom}
 
 -- Rotation k is in the set

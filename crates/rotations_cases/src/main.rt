@@ -1,11 +1,11 @@
-// Runs the calls of crate `rotations` on cases that stand one after the other on standard input. A case is the call, the room of the result
+// Runs the calls on rotations on cases that stand one after the other on standard input. A case is the call, the room of the result
 // buffer and the length of the book in two bytes each, low byte first, the length of what follows the book, the book, and that.
 // The calls: 0 lists the rotations; 1 does too, and prints only how many bytes of the buffer changed and their sum; 2 says whether one
 // rotation precedes another, both numbers after the book; 3 goes from a set to its matching; 4 from a matching to its set.
 // Prints a line for each: the number of the broken rule and its two places, the number of rotations or 1 for yes (0 where there is none), and
 // then the bytes of the result buffer, each 255 before the call. It takes 65,536 bytes of input.
-use instance::Checked;
-use instance::Refusal;
+use format::Checked;
+use format::Refusal;
 use libc::STDIN_FILENO;
 use libc::STDOUT_FILENO;
 use rotations::Listed;
@@ -52,12 +52,12 @@ fn run_in(call: u8, book: &[u8], more: &[u8], out: &mut [u8])
     requires { ⌜ length (now out) ≤ 10240 ⌝ }
 {
     if call == 0 {
-        print_listed(rotations::list(book, out));
+        print_listed(rotation_list::list(book, out));
         print_bytes(out);
         return;
     }
     if call == 1 {
-        print_listed(rotations::list(book, out));
+        print_listed(rotation_list::list(book, out));
         print_changed(out);
         return;
     }
@@ -66,11 +66,11 @@ fn run_in(call: u8, book: &[u8], more: &[u8], out: &mut [u8])
         return;
     }
     if call == 3 {
-        print_checked(rotations::set_to_matching(book, more, out));
+        print_checked(set_matching::set_to_matching(book, more, out));
         print_bytes(out);
         return;
     }
-    print_listed(rotations::matching_to_set(book, more, out));
+    print_listed(matching_set::matching_to_set(book, more, out));
     print_bytes(out);
 }
 
@@ -81,7 +81,7 @@ fn print_order(book: &[u8], numbers: &[u8]) {
     }
     let first = wide(numbers[0]);
     let second = wide(numbers[1]);
-    print_precedence(rotations::precedes(book, first, second));
+    print_precedence(precedence::precedes(book, first, second));
     end_line();
 }
 

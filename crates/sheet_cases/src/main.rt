@@ -2,7 +2,7 @@
 // bytes. It takes 65,536 bytes of input.
 use libc::STDIN_FILENO;
 use libc::STDOUT_FILENO;
-use sheet_lines::Written;
+use sheets::Written;
 ghost use Prim.Native.Nat.{_<_};
 
 fn main() {
@@ -35,7 +35,7 @@ fn wide(x: u8) -> usize
 
 // Writes the sheet of one input.
 fn print_sheet(input: &[u8]) {
-    let mut out = [0u8; sheet_lines::LONGEST];
+    let mut out = [0u8; sheets::LONGEST];
     let written = sheet_lines::write_sheet(input, &mut out);
     let Written::Bytes(len) = written else {
         return;

@@ -1,19 +1,19 @@
 // The sheet of what was read, a book and a matching.
-use crate::LONGEST;
-use crate::Written;
-use crate::answers::put_answers;
-use crate::lines::put_refused;
-use instance::Checked;
-use instance::Instance;
-use instance::Refusal;
-use instance::book_end;
-use matching::judge;
+use book::book_end;
+use format::Checked;
+use format::Refusal;
+use record::load;
+use sheet_answers::put_answers;
+use sheet_text::put_refused;
+use sheets::LONGEST;
+use sheets::Written;
+use stability::judge;
 ghost use mathlib.Core.Path.{_≡_};
 ghost use Prim.Native.Nat.{_≤_};
 ghost use lib.ListN.{length};
-ghost use Rattle.sheet_lines.specs.Sheet.{sheetOf};
-ghost use Rattle.sheet_lines.specs.Reply.{replyOf, sheetReply, sheetBuffer};
-ghost use Rattle.sheet_lines.specs.Put.{Put};
+ghost use Rattle.sheets.specs.Sheet.{sheetOf};
+ghost use Rattle.sheets.specs.Reply.{replyOf, sheetReply, sheetBuffer};
+ghost use Rattle.sheet_text.specs.Put.{Put};
 
 // Writes the sheet to the front of `out` and says how many bytes it has, or refuses by 14 where `out` is too short.
 // A refusal leaves `out` as it was, and a success leaves what is past the sheet.
@@ -40,7 +40,7 @@ fn put_sheet(input: &[u8], text: &mut [u8]) -> usize
     ensures { λ r. ⌜ Put (now (text .entry)) 0 (sheetOf (now (input .entry))) (now (text .exit)) r ⌝ }
 {
     let end = book_end(input);
-    let loaded = Instance::load(&input[..end]);
+    let loaded = load(&input[..end]);
     let read = loaded.checked;
     let n = loaded.instance.n;
     let judged = judge(

@@ -6,11 +6,11 @@ use mathlib.Core.Bool.{true}
 use mathlib.Core.List.{List, [], _∷_, _++_}
 use lib.ListN.{length, getD}
 use Rattle.laws.specs.Cycle.{returns, period, backAfter}
-use Rattle.instance.specs.Verdict.{Verdict, fine, refused}
-use Rattle.instance.specs.Format.{offset, listLength, due, entry, size}
-use Rattle.instance.specs.Lists.{firstFaulty, firstFaultyList, checkLists}
-use Rattle.instance.specs.Check.{firstMisfiled, checkBook}
-use Rattle.instance.specs.Write.{directory, bookOf}
+use Rattle.format.specs.Verdict.{Verdict, fine, refused}
+use Rattle.format.specs.Format.{offset, listLength, due, entry, size}
+use Rattle.format.specs.Lists.{firstFaulty, firstFaultyList, checkLists}
+use Rattle.format.specs.Check.{firstMisfiled, checkBook}
+use Rattle.format.specs.Write.{directory, bookOf}
 use Rattle.stable_theory.specs.Stable.Holder.{mirror, holder, holding}
 use Rattle.stable_theory.specs.Least.Settle.{least, settle, onward, beaten, outranks}
 use Rattle.stable_theory.specs.Least.Optimal.{proposer-optimal, receiver-optimal}
@@ -21,14 +21,14 @@ use Rattle.stable_theory.specs.Repairs.Answer.{answerOf, nearer, cost, robustne
 use Rattle.stable_theory.specs.Rotations.Rotation.{eliminate, pairOf, passed}
 use Rattle.stable_theory.specs.Rotations.Numbering.{preferred, willing, nextPlace, follow, followers, lowest, rotationAt, rotationsFrom, rotations, rotation}
 use Rattle.stable_theory.specs.Rotations.Subset.{after, vectorOf, required, precedes, closed}
-use Rattle.matching.specs.BookMarket.{market}
-use Rattle.matching.specs.Matching.{blocks, bestBlocking, lowestBlocking, checkNames, checkStable, checkMatching}
-use Rattle.matching.specs.Extreme.{manOptimal, womanOptimal}
+use Rattle.matchings.specs.BookMarket.{market}
+use Rattle.matchings.specs.Matching.{blocks, bestBlocking, lowestBlocking, checkNames, checkStable, checkMatching}
+use Rattle.matchings.specs.Extreme.{manOptimal, womanOptimal}
 use Rattle.rotations.specs.RotationList.{rotationBytes}
 use Rattle.rotations.specs.Sets.{badMarks, checkSet, setMatching}
-use Rattle.sheet_lines.specs.Decimal.{decimalIn, decimal}
-use Rattle.sheet_lines.specs.Line.{line, topLine, pairLine, pairLines, refusalLine}
-use Rattle.sheet_lines.specs.Sheet.{answers, sheetOf}
+use Rattle.sheets.specs.Decimal.{decimalIn, decimal}
+use Rattle.sheets.specs.Line.{line, topLine, pairLine, pairLines, refusalLine}
+use Rattle.sheets.specs.Sheet.{answers, sheetOf}
 use Rattle.worked.specs.Agree.{Row, agree, agree-each}
 
 -- The book of two students and two mentors: students 0 1 and 1 0, mentors 1 0 and 0 1

@@ -2,8 +2,8 @@
 // buffer, each in two bytes, low byte first; then the list bytes; then what the buffer has to hold afterwards, as many bytes as the room.
 // Before the call byte i of the buffer is i mod 251. Prints a line for each case: the number of the rule that stands against it and the
 // place given, or `0 0`, and then the first byte of the buffer that is not as stored, or the room. It takes 65,536 bytes of input.
-use instance::Checked;
-use instance::wide;
+use book::wide;
+use format::Checked;
 use libc::STDIN_FILENO;
 use libc::STDOUT_FILENO;
 ghost use Prim.Native.Nat.{_+_, _<_, _≤_};
@@ -55,7 +55,7 @@ fn run_in(n: usize, lists: &[u8], stored: &[u8], buffer: &mut [u8])
     requires { ⌜ length (now buffer) ≤ length (now stored) ⌝ }
 {
     set_pattern(buffer);
-    let answer = instance::write(n, lists, buffer);
+    let answer = writer::write(n, lists, buffer);
     print_answer(answer);
     print_number(first_difference(buffer, stored), b"\n");
 }

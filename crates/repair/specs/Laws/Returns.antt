@@ -8,27 +8,27 @@ use lib.IntN.{ℤ}
 use Rattle.laws.specs.Difference.{less}
 use Rattle.laws.specs.Table.{cell}
 use Rattle.laws.specs.Values.{vec, values}
-use Rattle.instance.specs.declared.record.Loaded.{Loaded}
-use Rattle.instance.specs.Verdict.{Verdict, fine, refused, andThen, goes-on}
-use Rattle.instance.specs.Format.{byte, people}
+use Rattle.format.specs.declared.record.Loaded.{Loaded}
+use Rattle.format.specs.Verdict.{Verdict, fine, refused, andThen, goes-on}
+use Rattle.format.specs.Format.{byte, people}
 use Rattle.stable_theory.specs.Repairs.Answer.{Answers}
 use Rattle.stable_theory.specs.Repairs.AnswerLaws.{answer-of}
-use Rattle.matching.specs.declared.Judged.{Judged}
-use Rattle.matching.specs.BookMarket.{market, market-proper}
-use Rattle.matching.specs.Matching.{vectorOf, checkMatching}
-use Rattle.matching.specs.ExtremeBytes.{Writable}
-use Rattle.matching.specs.StableCheck.{fine-stable}
-use Rattle.matching.specs.StableVector.{vector-stable}
-use Rattle.matching.specs.Judge.{BookJudged}
-use Rattle.repair.specs.declared.answer.Answer.{Answer as Given}
-use Rattle.repair.specs.declared.answer.Nearest.{Nearest}
-use Rattle.repair.specs.Request.{checkPair, checkRequest}
-use Rattle.repair.specs.Laws.Request.{Asked, asked}
-use Rattle.repair.specs.Repair.{refusal, replyOf, replyIf, writtenIf, answerFor, replyFor, matchingAfter, gainsAfter, repairReply, repairMatching, repairGains}
-use Rattle.repair.specs.Shown.{Small, shownReply, shownIf}
-use Rattle.repair.specs.Nearest.{Shows}
-use Rattle.repair.specs.Laws.Book.{judged-formed, judged-number, judged-men}
-use Rattle.repair.specs.Laws.RepairBytes.{holds}
+use Rattle.matchings.specs.declared.places.Judged.{Judged}
+use Rattle.matchings.specs.BookMarket.{market, market-proper}
+use Rattle.matchings.specs.Matching.{vectorOf, checkMatching}
+use Rattle.extremes.specs.ExtremeBytes.{Writable}
+use Rattle.matchings.specs.StableCheck.{fine-stable}
+use Rattle.matchings.specs.StableVector.{vector-stable}
+use Rattle.stability.specs.Judge.{BookJudged}
+use Rattle.repairs.specs.declared.answer.Answer.{Answer as Given}
+use Rattle.nearest.specs.declared.answer.Nearest.{Nearest}
+use Rattle.repairs.specs.Request.{checkPair, checkRequest}
+use Rattle.repairs.specs.Laws.Request.{Asked, asked}
+use Rattle.repairs.specs.Repair.{refusal, replyOf, replyIf, writtenIf, answerFor, replyFor, matchingAfter, gainsAfter, repairReply, repairMatching, repairGains}
+use Rattle.repair_answer.specs.Shown.{Small, shownReply, shownIf}
+use Rattle.nearest.specs.Nearest.{Shows}
+use Rattle.nearest.specs.Laws.Book.{judged-formed, judged-number, judged-men}
+use Rattle.repairs.specs.Laws.RepairBytes.{holds}
 use Rattle.repair.specs.Laws.Shown.{places-small, places-writable, after-stable, says-reply, says-bytes, says-gains}
 
 module _ (b m q out : List ℕ) (gains : List ℤ) where

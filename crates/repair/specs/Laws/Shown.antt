@@ -9,28 +9,28 @@ use lib.IntN.{ℤ}
 use Rattle.laws.specs.Difference.{less}
 use Rattle.laws.specs.Table.{cell}
 use Rattle.laws.specs.Values.{vec, values, values-same}
-use Rattle.instance.specs.declared.record.Loaded.{Loaded}
-use Rattle.instance.specs.Verdict.{fine}
-use Rattle.instance.specs.Format.{byte, people}
+use Rattle.format.specs.declared.record.Loaded.{Loaded}
+use Rattle.format.specs.Verdict.{fine}
+use Rattle.format.specs.Format.{byte, people}
 use Rattle.stable_theory.specs.Stable.Vector.{Stable}
 use Rattle.stable_theory.specs.Matchings.Matching.{partners}
 use Rattle.stable_theory.specs.Matchings.MatchingLaws.{partners-placed}
 use Rattle.stable_theory.specs.Matchings.Perfect.{stable-full}
 use Rattle.stable_theory.specs.Repairs.Answer.{Answer, Answers, nearer-up, nearer-down, neither}
-use Rattle.matching.specs.declared.Judged.{Judged}
-use Rattle.matching.specs.BookMarket.{market, market-proper, market-complete}
-use Rattle.matching.specs.Matching.{manRank, vectorOf, checkMatching}
-use Rattle.matching.specs.Extreme.{matchingOf}
-use Rattle.matching.specs.ExtremeBytes.{Writable}
-use Rattle.matching.specs.StableCheck.{StableIn, fine-stable}
-use Rattle.matching.specs.StableVector.{vector-stable}
-use Rattle.matching.specs.Judge.{BookJudged}
-use Rattle.repair.specs.declared.answer.Nearest.{Nearest}
-use Rattle.repair.specs.Repair.{up, down, gainsOf, replyFor, matchingAfter, gainsAfter}
-use Rattle.repair.specs.Shown.{Small, shownReply, shownIf}
-use Rattle.repair.specs.Nearest.{Shows, vectorAfter}
-use Rattle.repair.specs.Laws.Book.{judged-formed, judged-number, judged-alike, judged-men, judged-given}
-use Rattle.repair.specs.Laws.Bytes.{place-of, moved-vector, vector-place}
+use Rattle.matchings.specs.declared.places.Judged.{Judged}
+use Rattle.matchings.specs.BookMarket.{market, market-proper, market-complete}
+use Rattle.matchings.specs.Matching.{manRank, vectorOf, checkMatching}
+use Rattle.matchings.specs.Extreme.{matchingOf}
+use Rattle.extremes.specs.ExtremeBytes.{Writable}
+use Rattle.matchings.specs.StableCheck.{StableIn, fine-stable}
+use Rattle.matchings.specs.StableVector.{vector-stable}
+use Rattle.stability.specs.Judge.{BookJudged}
+use Rattle.nearest.specs.declared.answer.Nearest.{Nearest}
+use Rattle.repairs.specs.Repair.{up, down, gainsOf, replyFor, matchingAfter, gainsAfter}
+use Rattle.repair_answer.specs.Shown.{Small, shownReply, shownIf}
+use Rattle.nearest.specs.Nearest.{Shows, vectorAfter}
+use Rattle.nearest.specs.Laws.Book.{judged-formed, judged-number, judged-alike, judged-men, judged-given}
+use Rattle.repairs.specs.Laws.Bytes.{place-of, moved-vector, vector-place}
 
 module _ {b m : List ℕ} {L : Loaded} {j : Judged} (J : BookJudged b m L j) (f : checkMatching b m ≡ fine) where
   inside : StableIn b m

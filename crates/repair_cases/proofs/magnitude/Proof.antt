@@ -1,4 +1,4 @@
--- `repair_cases::magnitude` is safe: a number of 8 bits below zero, taken from 0, fits 64 bits and is not below zero. Assumes nothing.
+-- `magnitude` is safe: a number of 8 bits below zero, taken from 0, fits 64 bits and is not below zero. Assumes nothing.
 use Prim.Native.Nat.{ℕ, zero, suc, _+_}
 use mathlib.Core.Path.{_≡_, sym, _∙_, subst}
 use mathlib.Core.Bool.{true, false}

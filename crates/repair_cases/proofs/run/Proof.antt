@@ -1,4 +1,4 @@
--- `repair_cases::run` is safe. Assumes nothing.
+-- `run` is safe. Assumes nothing.
 use mathlib.Core.Path.{sym}
 use native.Mathlib.Omega.{arith}
 use lib.IntN.{pos}

@@ -8,9 +8,9 @@ use lib.Dec.{ltb, eqb}
 use borrow.Author.Tests.{lt-ltb, le-ltb, ltb-false, eqb-true, not-false}
 use Rattle.laws.specs.Choice.{either, either-none}
 use Rattle.laws.specs.First.{some, some-none}
-use Rattle.instance.specs.Verdict.{Verdict, fine, refused, broken, rule, stays, goes-on, all-fine, rule-fine}
-use Rattle.instance.specs.Format.{byte, people}
-use Rattle.instance.specs.Check.{checkBook}
+use Rattle.format.specs.Verdict.{Verdict, fine, refused, broken, rule, stays, goes-on, all-fine, rule-fine}
+use Rattle.format.specs.Format.{byte, people}
+use Rattle.format.specs.Check.{checkBook}
 use Rattle.rotations.specs.RotationList.{rotationCount}
 use Rattle.rotations.specs.Sets.{badMarks, closedSet, checkSet}
 

@@ -11,9 +11,9 @@ use borrow.Author.Tests.{eq-eqb, ne-eqb, le-ltb}
 use Rattle.laws.specs.Choice.{pick, either, same}
 use Rattle.laws.specs.First.{some-false}
 use Rattle.laws.specs.Values.{stored-at, length-values, values-same}
-use Rattle.instance.specs.Verdict.{fine}
-use Rattle.instance.specs.Format.{byte, people}
-use Rattle.instance.specs.WellFormed.{WellFormed}
+use Rattle.format.specs.Verdict.{fine}
+use Rattle.format.specs.Format.{byte, people}
+use Rattle.format.specs.WellFormed.{WellFormed}
 use Rattle.stable_theory.specs.Stable.Vector.{Stable}
 use Rattle.stable_theory.specs.Stable.Holding.{Same}
 use Rattle.stable_theory.specs.Matchings.Matching.{partners}
@@ -26,10 +26,10 @@ use Rattle.stable_theory.specs.Rotations.Canonical.{rotations-complete}
 use Rattle.stable_theory.specs.Rotations.Rebuild.{after-cong}
 use Rattle.stable_theory.specs.Rotations.ClosedSubset.{closed-agree}
 use Rattle.stable_theory.specs.Rotations.Demand2Theory.{theorem-1-matching, theorem-1-there, theorem-1-subset, theorem-1-back, closed-test}
-use Rattle.matching.specs.BookMarket.{market, market-proper}
-use Rattle.matching.specs.Matching.{vectorOf, checkMatching}
-use Rattle.matching.specs.StableCheck.{fine-stable}
-use Rattle.matching.specs.StableVector.{fine-vector, matching-back, vector-fine, vector-back}
+use Rattle.matchings.specs.BookMarket.{market, market-proper}
+use Rattle.matchings.specs.Matching.{vectorOf, checkMatching}
+use Rattle.matchings.specs.StableCheck.{fine-stable}
+use Rattle.matchings.specs.StableVector.{fine-vector, matching-back, vector-fine, vector-back}
 use Rattle.rotations.specs.RotationList.{rotationCount}
 use Rattle.rotations.specs.Sets.{member, badMarks, closedSet, setVector, setMatching, matchingSet}
 use Rattle.rotations.specs.Laws.SetVerdict.{GoodMarks}

@@ -1,4 +1,4 @@
--- `rotations_cases::print_changed` is safe and ends. The loop's invariant: i is at most the number of bytes, at most i bytes are counted, and their
+-- `print_changed` is safe and ends. The loop's invariant: i is at most the number of bytes, at most i bytes are counted, and their
 -- sum is at most 255 for each byte passed. The measure is the number left. Assumes nothing.
 use Prim.Native.Nat.{_≤_, _*_, _-_}
 use mathlib.Core.Logic.{⊎-elim}

@@ -1,4 +1,4 @@
--- `rotations_cases::run` is safe: the front of the buffer has the length that was asked for. Assumes nothing.
+-- `run` is safe: the front of the buffer has the length that was asked for. Assumes nothing.
 use Prim.Native.Nat.{ℕ, _≤_}
 use mathlib.Core.Path.{sym}
 use mathlib.Core.List.{List}

@@ -5,14 +5,14 @@ use mathlib.Core.List.{List}
 use native.Mathlib.Omega.{arith}
 use lib.ListN.{length, take, drop}
 use Rattle.laws.specs.Cut.{take-most, drop-most, take-rest}
-use Rattle.instance.specs.declared.Checked.{Checked}
-use Rattle.instance.specs.declared.Checked.the-variants.{Refused}
-use Rattle.instance.specs.declared.Refusal.{Refusal}
-use Rattle.instance.specs.Verdict.{Verdict, fine, verdictOf}
-use Rattle.instance.specs.Format.{people, size}
-use Rattle.matching.specs.Matching.{checkMatching}
-use Rattle.sheet_lines.specs.Line.{refusedLine}
-use Rattle.sheet_lines.specs.Sheet.{bookPart, matchingPart, answers, sheetAfter, sheetOf}
+use Rattle.format.specs.declared.verdict.Checked.{Checked}
+use Rattle.format.specs.declared.verdict.Checked.the-variants.{Refused}
+use Rattle.format.specs.declared.verdict.Refusal.{Refusal}
+use Rattle.format.specs.Verdict.{Verdict, fine, verdictOf}
+use Rattle.format.specs.Format.{people, size}
+use Rattle.matchings.specs.Matching.{checkMatching}
+use Rattle.sheets.specs.Line.{refusedLine}
+use Rattle.sheets.specs.Sheet.{bookPart, matchingPart, answers, sheetAfter, sheetOf}
 
 -- the bytes past the end of the book
 abbrev pub rest : List ℕ → ℕ → List ℕ

@@ -7,13 +7,13 @@ use lib.ListN.{length, take, drop}
 use borrow.Author.Tests.{lt-ltb, le-ltb}
 use Rattle.laws.specs.Choice.{split}
 use Rattle.laws.specs.Overwrite.{overwritten}
-use Rattle.instance.specs.Verdict.{fine, rule}
-use Rattle.sheet_lines.specs.declared.Written.{Written}
-use Rattle.sheet_lines.specs.declared.Written.the-variants.{Bytes}
-use Rattle.sheet_lines.specs.Sheet.{sheetOf}
-use Rattle.sheet_lines.specs.Reply.{bytes, refusal, replyOf, replyIf, sheetReply, sheetBuffer}
-use Rattle.sheet_lines.specs.Put.{Put}
-use Rattle.sheet_lines.specs.Laws.Put.{put-take}
+use Rattle.format.specs.Verdict.{fine, rule}
+use Rattle.sheets.specs.declared.answer.Written.{Written}
+use Rattle.sheets.specs.declared.answer.Written.the-variants.{Bytes}
+use Rattle.sheets.specs.Sheet.{sheetOf}
+use Rattle.sheets.specs.Reply.{bytes, refusal, replyOf, replyIf, sheetReply, sheetBuffer}
+use Rattle.sheet_text.specs.Put.{Put}
+use Rattle.sheet_text.specs.Laws.Put.{put-take}
 
 module _ (input out : List ℕ) {text now : List ℕ} {len : ℕ} (P : Put text 0 (sheetOf input) now len) where
   -- the buffer is too short for the sheet

@@ -1,4 +1,4 @@
--- `write_cases::first_difference` is safe and ends. The loop's invariant: `i` is within the first slice. The measure is what is left of it.
+-- `first_difference` is safe and ends. The loop's invariant: `i` is within the first slice. The measure is what is left of it.
 -- Assumes nothing.
 use Prim.Native.Nat.{_≤_, _-_}
 use native.Mathlib.Omega.{arith}

@@ -1,4 +1,4 @@
--- `write_cases::run` is safe: the part of the buffer that is lent is as long as what is stored. Assumes nothing.
+-- `run` is safe: the part of the buffer that is lent is as long as what is stored. Assumes nothing.
 use native.Mathlib.Omega.{arith}
 use lib.ListN.{length-take}
 use borrow.Author.Needs.{needs}

@@ -1,4 +1,4 @@
--- `write_cases::set_pattern` is safe and ends. The loop's invariant: `i` is within the slice, which is as long as it was. The measure is
+-- `set_pattern` is safe and ends. The loop's invariant: `i` is within the slice, which is as long as it was. The measure is
 -- what is left of it. Assumes nothing.
 use Prim.Native.Nat.{_≤_, _-_}
 use mathlib.Core.Path.{_≡_}

@@ -1,4 +1,4 @@
--- `placement::field::byte_at` meets its contract: past the end the byte is 0. Assumes nothing.
+-- `byte_at` meets its contract: past the end the byte is 0. Assumes nothing.
 use mathlib.Core.Path.{sym}
 use native.Mathlib.Omega.{arith}
 use borrow.Author.Needs.{needs}

@@ -1,6 +1,6 @@
--- `placement::field::length_in` meets its contract: the length is the word that was read. Assumes nothing.
+-- `length_in` meets its contract: the length is the word that was read. Assumes nothing.
 use borrow.Author.Needs.{needs}
-use Rattle.instance.specs.Format.{listLength}
+use Rattle.format.specs.Format.{listLength}
 use Rattle.placement.proofs.field.length_in.Statement.{statement}
 use Rattle.placement.proofs.field.length_in.Tie as tie
 

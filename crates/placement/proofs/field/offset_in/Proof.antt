@@ -1,6 +1,6 @@
--- `placement::field::offset_in` meets its contract: the offset is the word that was read. Assumes nothing.
+-- `offset_in` meets its contract: the offset is the word that was read. Assumes nothing.
 use borrow.Author.Needs.{needs}
-use Rattle.instance.specs.Format.{offset}
+use Rattle.format.specs.Format.{offset}
 use Rattle.placement.proofs.field.offset_in.Statement.{statement}
 use Rattle.placement.proofs.field.offset_in.Tie as tie
 

@@ -1,7 +1,7 @@
--- `repair::pair::check_pair` meets its contract: each return rewrites with the tests that led there. Assumes nothing.
+-- `check_pair` meets its contract: each return rewrites with the tests that led there. Assumes nothing.
 use borrow.Author.Needs.{needs}
 use borrow.Author.Tests.{eq-eqb, ne-eqb, le-leb, lt-leb, lt-ltb, le-ltb}
-use Rattle.repair.specs.Request.{checkPair}
+use Rattle.repairs.specs.Request.{checkPair}
 use Rattle.repair.proofs.pair.check_pair.Statement.{statement}
 use Rattle.repair.proofs.pair.check_pair.Tie as tie
 

@@ -1,6 +1,6 @@
--- `repair::pair::nearest_in` meets its contract: no end is given for anybody, so both repairs are tried. Assumes nothing.
+-- `nearest_in` meets its contract: no end is given for anybody, so both repairs are tried. Assumes nothing.
 use borrow.Author.Needs.{needs}
-use Rattle.repair.specs.Laws.Ends.{given-none}
+use Rattle.nearest.specs.Laws.Ends.{given-none}
 use Rattle.repair.proofs.pair.nearest_in.Statement.{statement}
 use Rattle.repair.proofs.pair.nearest_in.Tie as tie
 

@@ -1,9 +1,9 @@
--- `repair::pair::refused` meets its contract: the refusal is passed on. Assumes nothing.
+-- `refused` meets its contract: the refusal is passed on. Assumes nothing.
 use mathlib.Core.Path.{sym, ap}
 use borrow.Author.Needs.{needs}
-use Rattle.instance.specs.declared.Checked.{Checked}
-use Rattle.instance.specs.Verdict.{verdictOf}
-use Rattle.repair.specs.Repair.{fixed, replyIf}
+use Rattle.format.specs.declared.verdict.Checked.{Checked}
+use Rattle.format.specs.Verdict.{verdictOf}
+use Rattle.repairs.specs.Repair.{fixed, replyIf}
 use Rattle.repair.proofs.pair.refused.Statement.{statement}
 use Rattle.repair.proofs.pair.refused.Tie as tie
 

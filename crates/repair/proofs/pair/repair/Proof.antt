@@ -1,4 +1,4 @@
--- `repair::pair::repair` meets its contract: a refusal of the matching, a refusal of the request, and the answer. `passed` says that the matching
+-- `repair` meets its contract: a refusal of the matching, a refusal of the request, and the answer. `passed` says that the matching
 -- is stable, `admitted` that the request is not refused, `shown` that the search found the answer of the book. Assumes nothing.
 use Prim.Native.Nat.{ℕ, _≤_}
 use mathlib.Core.Path.{_≡_, sym, _∙_, ap, subst}
@@ -6,17 +6,17 @@ use native.Mathlib.Omega.{arith}
 use denote.Ref.{now}
 use lib.ListN.{length}
 use borrow.Author.Needs.{needs}
-use Rattle.instance.specs.Verdict.{Verdict, fine, verdictOf}
-use Rattle.instance.specs.Format.{byte}
-use Rattle.matching.specs.BookMarket.{market}
-use Rattle.instance.specs.declared.record.Loaded.{Loaded}
-use Rattle.matching.specs.Judge.{BookJudged, book-judged}
-use Rattle.matching.specs.Matching.{vectorOf, checkMatching}
-use Rattle.repair.specs.Request.{checkPair}
-use Rattle.repair.specs.Repair.{fixed, replyIf, answerFor}
-use Rattle.repair.specs.Nearest.{Shows}
-use Rattle.repair.specs.Laws.Book.{judged-given, shows-book}
-use Rattle.repair.specs.Laws.Request.{Asked}
+use Rattle.format.specs.Verdict.{Verdict, fine, verdictOf}
+use Rattle.format.specs.Format.{byte}
+use Rattle.matchings.specs.BookMarket.{market}
+use Rattle.format.specs.declared.record.Loaded.{Loaded}
+use Rattle.stability.specs.Judge.{BookJudged, book-judged}
+use Rattle.matchings.specs.Matching.{vectorOf, checkMatching}
+use Rattle.repairs.specs.Request.{checkPair}
+use Rattle.repairs.specs.Repair.{fixed, replyIf, answerFor}
+use Rattle.nearest.specs.Nearest.{Shows}
+use Rattle.nearest.specs.Laws.Book.{judged-given, shows-book}
+use Rattle.repairs.specs.Laws.Request.{Asked}
 use Rattle.repair.specs.Laws.Returns.{returns-refused, request-refused, request-follows, matching-long, given-small, asks, found-writable, found-small, returns-found}
 use Rattle.repair.proofs.pair.repair.Statement.{statement}
 use Rattle.repair.proofs.pair.repair.Tie as tie

@@ -1,19 +1,19 @@
--- `sheet_lines::sheet::put_sheet` meets its contract: the line of the refusal, or the answers where the check refused nothing. Assumes nothing.
+-- `put_sheet` meets its contract: the line of the refusal, or the answers where the check refused nothing. Assumes nothing.
 use mathlib.Core.Path.{_≡_, sym, _∙_, ap}
 use mathlib.Core.List.{List}
 use Prim.Native.Nat.{ℕ}
 use native.Mathlib.Omega.{arith}
 use lib.ListN.{length, take}
 use lib.Seq.{length-take-le}
-use Rattle.instance.specs.Verdict.{fine, verdictOf}
-use Rattle.matching.specs.Judge.{book-judged}
-use Rattle.matching.specs.Matching.{checkMatching}
-use Rattle.repair.specs.Laws.Book.{judged-given}
-use Rattle.sheet_lines.specs.Sheet.{sheetOf}
-use Rattle.sheet_lines.specs.Over.{sheetOver}
+use Rattle.format.specs.Verdict.{fine, verdictOf}
+use Rattle.stability.specs.Judge.{book-judged}
+use Rattle.matchings.specs.Matching.{checkMatching}
+use Rattle.nearest.specs.Laws.Book.{judged-given}
+use Rattle.sheets.specs.Sheet.{sheetOf}
+use Rattle.sheet_answers.specs.Over.{sheetOver}
 use Rattle.sheet_lines.specs.Laws.Parts.{rest, end-within, sheet-refusal, sheet-answers}
-use Rattle.sheet_lines.specs.Laws.Short.{sheet-short}
-use Rattle.sheet_lines.specs.Laws.Over.{record-usable, matching-long, totals, sheet-over}
+use Rattle.sheet_answers.specs.Laws.Short.{sheet-short}
+use Rattle.sheet_answers.specs.Laws.Over.{record-usable, matching-long, totals, sheet-over}
 use borrow.Author.Needs.{needs}
 use Rattle.sheet_lines.proofs.sheet.put_sheet.Statement.{statement}
 use Rattle.sheet_lines.proofs.sheet.put_sheet.Tie as tie

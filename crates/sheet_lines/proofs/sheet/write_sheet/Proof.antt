@@ -1,10 +1,10 @@
--- `sheet_lines::sheet::write_sheet` meets its contract: the sheet is built beside the buffer, and copied where it fits. Assumes nothing.
+-- `write_sheet` meets its contract: the sheet is built beside the buffer, and copied where it fits. Assumes nothing.
 use mathlib.Core.Path.{sym}
 use native.Mathlib.Omega.{arith}
 use lib.Seq.{length-take-le}
 use borrow.Author.Needs.{needs}
-use Rattle.sheet_lines.specs.Laws.Put.{put-front}
-use Rattle.sheet_lines.specs.Laws.Short.{sheet-short}
+use Rattle.sheet_text.specs.Laws.Put.{put-front}
+use Rattle.sheet_answers.specs.Laws.Short.{sheet-short}
 use Rattle.sheet_lines.specs.Laws.Reply.{sheet-refused, sheet-written}
 use Rattle.sheet_lines.proofs.sheet.write_sheet.Statement.{statement}
 use Rattle.sheet_lines.proofs.sheet.write_sheet.Tie as tie

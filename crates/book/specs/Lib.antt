@@ -1,0 +1,2 @@
+-- What the proofs of the check cite. Assumes nothing.
+pub mod Laws

@@ -1,0 +1,93 @@
+// Rules 6 and 7 on one list.
+use crate::field::wide;
+use crate::refusal::refuse;
+use format::Checked;
+ghost use mathlib.Core.Path.{_≡_};
+ghost use Prim.Native.Nat.{ℕ, _≤_, _<_};
+ghost use lib.Dec.{eqb};
+ghost use lib.ListN.{length};
+ghost use Rattle.laws.specs.Marks.{Marks, among};
+ghost use Rattle.laws.specs.Sum.{sum, count};
+ghost use Rattle.format.specs.Verdict.{verdictOf};
+ghost use Rattle.format.specs.Format.{byte};
+ghost use Rattle.format.specs.Lists.{firstFaulty, checkList};
+
+// The place of the first entry of the list that is n or more or stands earlier in it, or the list's length.
+// Entries that were met are marked, so that each is looked at once.
+pub fn first_faulty(list: &[u8], n: usize) -> usize
+    ensures { λ r. ⌜ r ≡ firstFaulty n (byte (now (list .entry))) (length (now (list .entry))) ⌝ }
+{
+    let mut marks = [0u8; 256];
+    let mut j = 0;
+    while j < list.len() {
+        let e = wide(list[j]);
+        if n <= e {
+            return j;
+        }
+        if marks[e] == 1 {
+            return j;
+        }
+        marks[e] = 1;
+        j += 1;
+    }
+    j
+}
+
+// Marks each entry of the list.
+fn mark_all(list: &[u8], marks: &mut [u8; 256])
+    requires { ⌜ Marks 256 (byte (now list)) 0 (now marks) ⌝ }
+    ensures { λ _. ⌜ Marks 256 (byte (now (list .entry))) (length (now (list .entry))) (now (marks .exit)) ⌝ }
+{
+    let mut j = 0;
+    while j < list.len() {
+        let e = wide(list[j]);
+        marks[e] = 1;
+        j += 1;
+    }
+}
+
+// How many of the first n marks are set. The sum is kept in a byte, so that many marks are added at a time.
+fn count_marks(marks: &[u8], n: usize) -> usize
+    requires { ⌜ (n ≤ length (now marks)) × (n < 256) × ((v : ℕ) → v < n → byte (now marks) v ≤ 1) ⌝ }
+    ensures { λ r. ⌜ r ≡ sum n (byte (now (marks .entry))) ⌝ }
+{
+    let mut found: u8 = 0;
+    let mut v = 0;
+    while v < n {
+        found += marks[v];
+        v += 1;
+    }
+    wide(found)
+}
+
+// Whether the list names all of 0 to n - 1; where it has n entries, it then names each once. The entries are marked without a test and the
+// marks are counted.
+fn names_all(list: &[u8], n: usize) -> bool
+    requires { ⌜ n < 256 ⌝ }
+    ensures { λ r. ⌜ r ≡ eqb (count n (among (byte (now (list .entry))) (length (now (list .entry))))) n ⌝ }
+{
+    let mut marks = [0u8; 256];
+    mark_all(list, &mut marks);
+    count_marks(&marks, n) == n
+}
+
+// Rules 6 and 7 on a list whose first entry stands at place `at`: the first entry that breaks one is refused, by 6 where it is n or more.
+// It is searched for only where a list of n entries does not name all.
+pub fn check_list(list: &[u8], n: usize, at: usize) -> Checked
+    requires { ⌜ (n < 256) × (at < 65536) ⌝ }
+    ensures { λ r. ⌜ verdictOf r ≡ checkList n (byte (now (list .entry))) (length (now (list .entry))) at ⌝ }
+{
+    if list.len() == n {
+        if names_all(list, n) {
+            return Checked::Fine;
+        }
+    }
+    let j = first_faulty(list, n);
+    if list.len() <= j {
+        return Checked::Fine;
+    }
+    if n <= wide(list[j]) {
+        return refuse(6, at + j);
+    }
+    refuse(7, at + j)
+}

@@ -1,0 +1,2 @@
+-- Closed subsets: what the contracts and proofs cite. Assumes nothing.
+pub mod Laws

@@ -1,0 +1,201 @@
+// Closed sets: the marks of a set, the places of its matching, and whether these are stable and past its rotations and no others, which is
+// whether it is closed.
+use format::Instance;
+use matchings::Places;
+use precedence::next_start;
+use precedence::past;
+use rotation_elimination::eliminate;
+ghost use mathlib.Core.Path.{_≡_};
+ghost use mathlib.Core.Bool.{not};
+ghost use Prim.Native.Nat.{ℕ, _*_, _≤_, _<_};
+ghost use lib.Dec.{ltb, eqb};
+ghost use lib.ListN.{length, take};
+ghost use Rattle.laws.specs.Choice.{pick, either};
+ghost use Rattle.laws.specs.First.{some};
+ghost use Rattle.laws.specs.Values.{vec};
+ghost use Rattle.format.specs.Format.{byte, largest};
+ghost use Rattle.stable_theory.specs.Stable.Vector.{Within};
+ghost use Rattle.proposals.specs.Lists.{Tables, marketOf};
+ghost use Rattle.extremes.specs.Usable.{Usable, marketIn};
+ghost use Rattle.rotations.specs.Sets.{member};
+ghost use Rattle.format.specs.Record.{recordOf};
+ghost use Rattle.rotation_elimination.specs.Laws.Written.{rotationIn};
+ghost use Rattle.precedence.specs.Laws.ListRead.{startIn, pastIn, Readable};
+ghost use Rattle.rotation_elimination.specs.Laws.EliminateCode.{Eliminable};
+ghost use Rattle.closed_subsets.specs.Laws.SetCode.{EliminatedIf, SetReady, SetEliminated};
+ghost use Rattle.closed_subsets.specs.Laws.PlaceTests.{AgreeIs, SameIs, StableIs, ClosesIs};
+ghost use Rattle.closed_subsets.specs.Laws.SetPlaces.{SetPlaces};
+
+// Whether a set has not one byte a rotation, or a byte is over 1.
+pub fn bad_marks(set: &[u8], count: usize) -> bool
+    ensures { λ r. ⌜ r ≡ either (not (eqb (length (now (set .entry))) count)) (some (λ k. ltb 1 (byte (now (set .entry)) k)) (length (now (set .entry)))) ⌝ }
+{
+    if set.len() != count {
+        return true;
+    }
+    let mut k = 0;
+    while k < set.len() {
+        if 1 < set[k] {
+            return true;
+        }
+        k += 1;
+    }
+    false
+}
+
+// Eliminates the rotation that stands at `at` where its mark is 1.
+fn eliminate_marked<'a>(
+    mark: u8,
+    n: usize,
+    pranks: &'a [u16],
+    rranks: &'a [u16],
+    list: &[u16],
+    at: usize,
+    p: &mut [u16],
+    t: &mut [u16],
+)
+    requires { ⌜ Eliminable n n (now pranks) (now rranks) (now list) at (now p) (now t) ⌝ }
+    ensures { λ _. ⌜ EliminatedIf mark n (now (pranks .entry)) (now (rranks .entry)) (rotationIn (now (list .entry)) at) (now (p .entry)) (now (t .entry)) (vec (now (list .entry)) at) (now (p .exit)) (now (t .exit)) ⌝ }
+{
+    if mark == 1 {
+        eliminate(n, n, pranks, rranks, list, at, p, t);
+    }
+}
+
+// Eliminates the rotations of a set in order of number.
+fn eliminate_set<'a>(
+    n: usize,
+    pranks: &'a [u16],
+    rranks: &'a [u16],
+    list: &[u16],
+    set: &[u8],
+    p: &mut [u16],
+    t: &mut [u16],
+)
+    requires { ⌜ SetReady n (length (now set)) (now pranks) (now rranks) (now list) (now p) (now t) ⌝ }
+    ensures { λ _. ⌜ SetEliminated n (now (pranks .entry)) (now (list .entry)) (now (set .entry)) (now (p .entry)) (length (now (set .entry))) (now (p .exit)) ⌝ }
+{
+    let mut at: usize = 0;
+    let mut k = 0;
+    while k < set.len() {
+        eliminate_marked(set[k], n, pranks, rranks, list, at, p, t);
+        at = next_start(list, at);
+        k += 1;
+    }
+}
+
+// Whether a test agrees with a mark.
+fn agrees(yes: bool, mark: u8) -> bool
+    ensures { λ r. ⌜ r ≡ pick (eqb mark 1) yes (not yes) ⌝ }
+{
+    if mark == 1 { yes } else { !yes }
+}
+
+// Whether the places are past the rotations of a set and no others.
+fn has_set(n: usize, ranks: &[u16], list: &[u16], set: &[u8], places: &[u16]) -> bool
+    requires { ⌜ Readable n (length (now set)) (now list) ⌝ }
+    requires { ⌜ (n ≤ length (now places)) × (n * n ≤ length (now ranks)) ⌝ }
+    ensures { λ r. ⌜ AgreeIs (length (now (set .entry))) (λ k. pastIn n (now (ranks .entry)) (now (list .entry)) (startIn (now (list .entry)) k) (vec (now (places .entry)))) (member (now (set .entry))) r ⌝ }
+{
+    let mut at: usize = 0;
+    let mut k = 0;
+    while k < set.len() {
+        if !agrees(past(n, ranks, list, at, places), set[k]) {
+            return false;
+        }
+        at = next_start(list, at);
+        k += 1;
+    }
+    true
+}
+
+// Whether the first n places of two vectors are the same.
+fn same_places(n: usize, p: &[u16], q: &[u16]) -> bool
+    requires { ⌜ (n ≤ length (now p)) × (n ≤ length (now q)) ⌝ }
+    ensures { λ r. ⌜ SameIs n (vec (now (p .entry))) (vec (now (q .entry))) r ⌝ }
+{
+    let mut i = 0;
+    while i < n {
+        if p[i] != q[i] {
+            return false;
+        }
+        i += 1;
+    }
+    true
+}
+
+// Whether places are stable: whether deferred acceptance from them leaves them as they are and calls them stable.
+fn is_stable<'a>(
+    n: usize,
+    mlens: &'a [u16],
+    mlists: &'a [u16],
+    wlens: &'a [u16],
+    wlists: &'a [u16],
+    wranks: &'a [u16],
+    men: [u16; Instance::LARGEST],
+) -> bool
+    requires { ⌜ Tables n n (now mlens) (now mlists) (now wlens) (now wlists) (now wranks) × (n ≤ largest) ⌝ }
+    requires { ⌜ Within (marketOf n n (now mlens) (now mlists) (now wlens) (now wlists)) (vec men) × (length men ≡ largest) ⌝ }
+    ensures { λ r. ⌜ StableIs (marketOf n n (now (mlens .entry)) (now (mlists .entry)) (now (wlens .entry)) (now (wlists .entry))) (vec men) r ⌝ }
+{
+    let mut p = men;
+    let mut t = [0u16; Instance::LARGEST];
+    let stable = deferred::least(
+        n,
+        n,
+        mlens,
+        mlists,
+        wlens,
+        wlists,
+        wranks,
+        &mut p[..n],
+        &mut t[..n],
+    );
+    if !stable {
+        return false;
+    }
+    same_places(n, &p, &men)
+}
+
+// The places of a set: its rotations eliminated from the student-best places.
+pub fn set_places<'a>(
+    n: usize,
+    mranks: &'a [u16],
+    wranks: &'a [u16],
+    places: Places,
+    list: &[u16],
+    set: &[u8],
+) -> [u16; Instance::LARGEST]
+    requires { ⌜ SetReady n (length (now set)) (now mranks) (now wranks) (now list) (take n (places .men)) (take n (places .women)) ⌝ }
+    requires { ⌜ (n ≤ largest) × (length (places .men) ≡ largest) × (length (places .women) ≡ largest) × ((i : ℕ) → n ≤ i → vec (places .men) i ≡ 0) ⌝ }
+    ensures { λ r. ⌜ SetPlaces n (now (mranks .entry)) (now (list .entry)) (now (set .entry)) (places .men) r ⌝ }
+{
+    let mut men = places.men;
+    let mut women = places.women;
+    eliminate_set(n, mranks, wranks, list, set, &mut men[..n], &mut women[..n]);
+    men
+}
+
+// Whether places are stable and past the rotations of a set and no others.
+pub fn closes<'a>(
+    n: usize,
+    mlens: &'a [u16],
+    mlists: &'a [u16],
+    mranks: &'a [u16],
+    wlens: &'a [u16],
+    wlists: &'a [u16],
+    wranks: &'a [u16],
+    list: &[u16],
+    set: &[u8],
+    men: [u16; Instance::LARGEST],
+) -> bool
+    requires { ⌜ Usable (recordOf n (now mlens) (now mlists) (now mranks) (now wlens) (now wlists) (now wranks)) ⌝ }
+    requires { ⌜ Within (marketIn (recordOf n (now mlens) (now mlists) (now mranks) (now wlens) (now wlists) (now wranks))) (vec men) × (length men ≡ largest) ⌝ }
+    requires { ⌜ Readable n (length (now set)) (now list) ⌝ }
+    ensures { λ r. ⌜ ClosesIs (marketIn (recordOf n (now (mlens .entry)) (now (mlists .entry)) (now (mranks .entry)) (now (wlens .entry)) (now (wlists .entry)) (now (wranks .entry)))) (vec men) (length (now (set .entry))) (λ k. pastIn n (now (mranks .entry)) (now (list .entry)) (startIn (now (list .entry)) k) (vec men)) (member (now (set .entry))) r ⌝ }
+{
+    if !is_stable(n, mlens, mlists, wlens, wlists, wranks, men) {
+        return false;
+    }
+    has_set(n, mranks, list, set, &men)
+}

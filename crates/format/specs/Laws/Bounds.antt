@@ -1,0 +1,18 @@
+-- How large the numbers of a book are: n × n, and where list k of 2 × n lists of n entries ends. Assumes nothing.
+use Prim.Native.Nat.{ℕ, _+_, _*_, _≤_, _<_}
+use native.Mathlib.Omega.{arith}
+use native.Mathlib.Nat.{mul-le-mul, mul-assoc}
+use Rattle.laws.specs.Table.{row-end}
+use Rattle.format.specs.Format.{largest}
+
+-- n × n is at most the square of the largest n
+pub few-square : {n : ℕ} → n ≤ largest → n * n ≤ largest * largest
+few-square h = mul-le-mul h h
+
+-- k lists and one more have no more than 2 × n × n entries
+pub list-end : (n : ℕ) {k : ℕ} → k < 2 * n → k * n + n ≤ 2 * (n * n)
+list-end n h = omega (arith, row-end n h, mul-assoc 2 n n)
+
+-- the square of a byte
+pub byte-square : {n : ℕ} → n < 256 → n * n ≤ 255 * 255
+byte-square {n} h = let u : n ≤ 255 = omega arith in mul-le-mul u u

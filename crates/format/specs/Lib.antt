@@ -1,0 +1,17 @@
+-- The format of an instance, document 01's book: the definitions in the order of document 01 and what they mean. Laws has what the proofs of the
+-- crates above cite. Assumes nothing.
+pub mod Verdict
+pub mod Format
+pub mod Sizes
+pub mod Lists
+pub mod Faults
+pub mod Check
+pub mod WellFormed
+pub mod Write
+pub mod Writable
+pub mod RoundTrip
+pub mod Person
+pub mod Place
+pub mod Record
+pub mod Ranks
+pub mod Laws

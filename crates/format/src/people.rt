@@ -1,0 +1,7 @@
+// The two sides, after the source: a number of one side never stands for one of the other.
+
+// A man, document 01's student, by number.
+pub struct Man(pub u8);
+
+// A woman, document 01's mentor, by number.
+pub struct Woman(pub u8);

@@ -1,0 +1,116 @@
+-- The nearest repair: what the two pushes give is the answer, and the answer is the same in markets that are alike. Assumes nothing.
+use Prim.Native.Nat.{ℕ, _+_, _*_, _-_, _≤_, _<_}
+use mathlib.Core.Path.{_≡_, refl, _∙_}
+use mathlib.Core.List.{List}
+use mathlib.Core.Bool.{Bool}
+use native.Mathlib.Omega.{arith}
+use lib.ListN.{length}
+use Rattle.laws.specs.Sum.{count}
+use Rattle.laws.specs.Table.{cell, cell-lt}
+use Rattle.laws.specs.Values.{vec}
+use Rattle.format.specs.Format.{largest}
+use Rattle.stable_theory.specs.Stable.Market.{Market, exchange}
+use Rattle.stable_theory.specs.Stable.Vector.{Holds}
+use Rattle.stable_theory.specs.Stable.Holding.{Same, hold-at}
+use Rattle.stable_theory.specs.Stable.Alike.{Alike}
+use Rattle.stable_theory.specs.Stable.Mirror.{mirror-back, stable-across}
+use Rattle.stable_theory.specs.Repairs.Repair.{IsDown, IsUp, moved, weight}
+use Rattle.stable_theory.specs.Repairs.Moves.{weight-same}
+use Rattle.stable_theory.specs.Repairs.Answer.{Answer, U, D, F, answerOf, Answers, SameAnswer, same-up, same-down, same-fixed}
+use Rattle.stable_theory.specs.Repairs.AnswerLaws.{answer-of, answer-unique}
+use Rattle.stable_theory.specs.Repairs.AnswerAlike.{weight-alike}
+use Rattle.proposals.specs.Lists.{marketOf}
+use Rattle.proposals.specs.Push.{Pushable}
+use Rattle.nearest.specs.declared.answer.Letter.the-variants.{Up, Down, Fixed}
+use Rattle.nearest.specs.declared.answer.Nearest.{Nearest}
+use Rattle.nearest.specs.Tried.{Tries, Measured}
+use Rattle.nearest.specs.Laws.Tried.{Reached, reached-down, reached-up, answers-down, answers-up, answers-fixed}
+use Rattle.nearest.specs.Nearest.{Given, Shows}
+
+-- the same answer, said so too
+pub shows-same : {I : Market} {p : ℕ → ℕ} {a b : Answer} {r : Nearest} → SameAnswer I a b → Shows I p a r → Shows I p b r
+shows-same {I} {p} (same-up {u} {v} e) K =
+    record { letter = K .letter; distance = K .distance ∙ weight-same I (λ i. 1) p u v e; places = λ i l. K .places i l ∙ e i l; long = K .long }
+shows-same {I} {p} (same-down {u} {v} e) K =
+    record { letter = K .letter; distance = K .distance ∙ weight-same I (λ i. 1) p u v e; places = λ i l. K .places i l ∙ e i l; long = K .long }
+shows-same same-fixed K = K
+
+-- and in a market that is alike, of vectors that agree
+pub shows-alike : {I J : Market} (A : Alike I J) {p q : ℕ → ℕ} (e : Same I p q) (a : Answer) {r : Nearest} → Shows I p a r → Shows J q a r
+shows-alike A e (U v) K =
+    record { letter = K .letter; distance = K .distance ∙ weight-alike A e (λ i. 1) v v (λ i l. refl); places = λ i l. K .places i (omega (arith, A .proposing .size)); long = K .long }
+shows-alike A e (D v) K =
+    record { letter = K .letter; distance = K .distance ∙ weight-alike A e (λ i. 1) v v (λ i l. refl); places = λ i l. K .places i (omega (arith, A .proposing .size)); long = K .long }
+shows-alike {I} A e F K =
+    record {
+      letter = K .letter;
+      distance = K .distance;
+      places = λ i l. let u : i < I .proposers .size = omega (arith, A .proposing .size) in K .places i u ∙ e i u;
+      long = K .long;
+    }
+
+module _ {n : ℕ} {man-lengths man-lists man-ranks woman-lengths woman-lists woman-ranks men women : List ℕ}
+    (G : Given n man-lengths man-lists man-ranks woman-lengths woman-lists woman-ranks men women) {s : ℕ} (u : s < n) where
+  -- the market of the tables, the men proposing
+  abbrev I : Market
+  I = marketOf n n man-lengths man-lists woman-lengths woman-lists
+
+  -- his place is within his row
+  pub place-index : s * n + vec men s < length man-lists
+  place-index =
+      let S = G .by-men .proposers in
+      let l : vec men s < n = omega (arith, G .placed u, S .short u) in
+      omega (arith, cell-lt u l, S .rows)
+
+  -- the men's vector may be pushed on
+  pub men-pushable : Pushable I (vec men) (vec women) s
+  men-pushable = record { stable = G .stable; mirror = G .mirror; proposer = u }
+
+  module _ {w : ℕ} (e : w ≡ cell man-lists n s (vec men s)) where
+    -- man s holds woman w
+    hold : Holds I (vec men) s w
+    hold = rw e (hold-at (G .by-men .proper) (vec men) u (G .placed u))
+
+    -- and so may the women's
+    pub women-pushable : Pushable (exchange I) (vec women) (vec men) w
+    women-pushable =
+        record {
+          stable = stable-across (G .by-men .proper) (G .mirror) (G .stable);
+          mirror = mirror-back (G .mirror);
+          proposer = hold .pair .receiver;
+        }
+
+    pub woman-placed : vec women w < vec woman-lengths w
+    woman-placed = let h = G .mirror .there hold in omega (arith, h .is, h .pair .lists)
+
+    module _ {d t v x : ℕ → ℕ} {found there : Bool} {below above : ℕ}
+        (A : Tries I (vec men) s d t found) (B : Tries (exchange I) (vec women) w v x there)
+        (K : Measured n (count n (moved (vec men) d)) found below) (L : Measured n (count n (moved (vec men) x)) there above) where
+      down-side : Reached I (vec men) (IsDown I (vec men) s) d below
+      unfolding weight
+      down-side = reached-down A K
+
+      up-side : Reached I (vec men) (IsUp I (vec men) s) x above
+      unfolding weight
+      up-side = reached-up (G .by-men .proper) (G .stable) (G .mirror) hold B L
+
+      -- an answer that is right is the one that is worked out
+      right : {a : Answer} {r : Nearest} → Answers I (λ i. 1) (vec men) s a → Shows I (vec men) a r → Shows I (vec men) (answerOf I (λ i. 1) (vec men) s) r
+      right X S = shows-same (answer-unique X (answer-of (G .by-men .proper) (λ i. 1) (G .stable) hold)) S
+
+      -- the three answers of the code
+      pub says-down : {places : List ℕ} → ((i : ℕ) → i < n → vec places i ≡ d i) → length places ≡ largest → below < above →
+          Shows I (vec men) (answerOf I (λ i. 1) (vec men) s) (record { letter = Down; distance = below; men = places })
+      says-down e h l =
+          right (answers-down up-side down-side l)
+          (record { letter = refl; distance = down-side .distance (omega (arith, up-side .most)); places = e; long = h })
+
+      pub says-fixed : length men ≡ largest → above ≤ below → n < above →
+          Shows I (vec men) (answerOf I (λ i. 1) (vec men) s) (record { letter = Fixed; distance = 0; men = men })
+      says-fixed h l f =
+          right (answers-fixed up-side down-side l f) (record { letter = refl; distance = refl; places = λ i v. refl; long = h })
+
+      pub says-up : {places : List ℕ} → ((i : ℕ) → i < n → vec places i ≡ x i) → length places ≡ largest → above ≤ below → above ≤ n →
+          Shows I (vec men) (answerOf I (λ i. 1) (vec men) s) (record { letter = Up; distance = above; men = places })
+      says-up e h l f =
+          right (answers-up up-side down-side l f) (record { letter = refl; distance = up-side .distance f; places = e; long = h })

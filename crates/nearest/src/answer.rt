@@ -1,0 +1,16 @@
+// The nearest repair of a pair.
+use format::Instance;
+
+// Which repair is the nearest, or that there is none.
+pub enum Letter {
+    Up,
+    Down,
+    Fixed,
+}
+
+// The nearest repair of a pair: its distance, and the rank of each man's woman in it. Where there is none, 0 and the ranks that were given.
+pub struct Nearest {
+    pub letter: Letter,
+    pub distance: usize,
+    pub men: [u16; Instance::LARGEST],
+}

@@ -1,0 +1,7 @@
+// The nearest repair of a pair, over the record of a book and the places of a stable matching, so that all pairs of a matching share them.
+mod answer;
+mod pushes;
+
+pub use answer::Letter;
+pub use answer::Nearest;
+pub use pushes::nearest;

@@ -1,0 +1,130 @@
+-- The order of a book's rotations, read from the list of a record: the code's test is the theory's. Assumes nothing.
+use Prim.Native.Nat.{ℕ, _≤_, _<_}
+use mathlib.Core.Path.{_≡_, refl, sym, _∙_, ap, ap₂}
+use mathlib.Core.Bool.{Bool, false, not}
+use mathlib.Core.List.{List}
+use native.Mathlib.Omega.{arith}
+use lib.Dec.{leb}
+use borrow.Author.Tests.{le-leb, lt-leb, eq-eqb, ne-eqb}
+use Rattle.laws.specs.Choice.{both, either, either-true}
+use Rattle.laws.specs.Table.{cell}
+use Rattle.format.specs.declared.record.Instance.{Instance}
+use Rattle.format.specs.Verdict.{Verdict, fine, refused, broken, rule, stays, goes-on}
+use Rattle.format.specs.Check.{checkBook}
+use Rattle.stable_theory.specs.Stable.Holding.{Same}
+use Rattle.stable_theory.specs.Stable.Alike.{Alike, alike-sym}
+use Rattle.stable_theory.specs.Least.Optimal.{proposer-optimal}
+use Rattle.stable_theory.specs.Least.LeastAlike.{least-alike}
+use Rattle.stable_theory.specs.Rotations.Rotation.{SamePairs, passed}
+use Rattle.stable_theory.specs.Rotations.Numbering.{rotation}
+use Rattle.stable_theory.specs.Rotations.SameRotation.{passed-agree}
+use Rattle.stable_theory.specs.Rotations.Subset.{prefix, required, precedes}
+use Rattle.stable_theory.specs.Rotations.RotationAlike.{exposed-alike, eliminate-alike, eliminate-same}
+use Rattle.matchings.specs.BookMarket.{market, market-proper}
+use Rattle.extremes.specs.Usable.{marketIn, usable-alike}
+use Rattle.rotation_numbering.specs.declared.numbering.Extent.{Extent}
+use Rattle.rotation_numbering.specs.Laws.Numbers.{NumberingOf}
+use Rattle.rotations.specs.RotationList.{rotationCount}
+use Rattle.rotation_list.specs.Laws.Replies.{Read, read-usable}
+use Rattle.rotation_list.specs.Laws.BookList.{before-stable, numbered-exposed, book-numbered}
+use Rattle.precedence.specs.Laws.ListRead.{startIn, numberIn, pastIn, Readable, number-same, lists-readable, past-passed}
+use Rattle.precedence.specs.Laws.Required.{requiredPlaces, from-zeros, zeros-within}
+use Rattle.rotations.specs.Precedence.{checkNumbers, bookPrecedes, Answer, says, refusal, saying}
+
+module _ {b : List ℕ} {r : Instance} (R : Read b r) where
+  -- the record's market is alike to the book's
+  pub book-alike : Alike (marketIn r) (market b)
+  book-alike = usable-alike (R .formed) (R .tables)
+
+  -- its rank table has the book's places
+  pub book-ranks : (i w : ℕ) → i < market b .proposers .size → w < market b .receivers .size → cell (r .«man_ranks») (r .n) i w ≡ market b .proposers .place i w
+  unfolding market
+  book-ranks i w u v =
+      let a : i < r .n = omega (arith, R .tables .number) in
+      let c : w < r .n = omega (arith, R .tables .number) in
+      read-usable R .women .agrees .rank a c ∙ book-alike .proposing .place a c
+
+  module _ {numbers : List ℕ} {s : Extent} (N : NumberingOf r numbers s) where
+    -- the vectors in which the rotations are exposed
+    exposing : ℕ → ℕ → ℕ
+    exposing j = prefix (market b) (rotation (market b)) (proposer-optimal (market b)) j
+
+    -- the list can be read
+    pub book-readable : Readable (r .n) (rotationCount b) numbers
+    unfolding market exposing
+    book-readable =
+        lists-readable (book-numbered R N .lists) (market-proper (R .formed)) exposing (λ k h. before-stable R k (omega arith)) (λ k h. numbered-exposed R h)
+        (R .tables .number) (R .tables .number)
+
+    -- rotation number k of the list is the book's
+    pub book-number : {k : ℕ} → k < rotationCount b → SamePairs (numberIn numbers k) (rotation (market b) k)
+    unfolding exposing
+    book-number h =
+        number-same (book-numbered R N .lists) (market-proper (R .formed)) exposing (λ k h. before-stable R k (omega arith)) (λ k h. numbered-exposed R h) h
+
+    -- the test on places is the theory's
+    pub book-past : (q : ℕ → ℕ) {k : ℕ} → k < rotationCount b → pastIn (r .n) (r .«man_ranks») numbers (startIn numbers k) q ≡ passed (market b) (rotation (market b) k) q
+    unfolding exposing
+    book-past q h =
+        past-passed (book-numbered R N .lists) (market-proper (R .formed)) exposing (λ k h. before-stable R k (omega arith)) (λ k h. numbered-exposed R h)
+        (r .n) (r .«man_ranks») q h book-ranks
+
+    -- the least places past a rotation are the theory's
+    book-required : {k : ℕ} → k < rotationCount b → Same (market b) (requiredPlaces (marketIn r) (numberIn numbers k)) (required (market b) (rotation (market b) k))
+    unfolding required
+    book-required {k} h i u =
+        let U = read-usable R in
+        let A = book-alike in
+        let T = book-readable .turnable k h in
+        let X = exposed-alike (alike-sym A) (λ j v. refl) (numbered-exposed R h) in
+        least-alike (U .men .proper) (market-proper (R .formed)) A
+        (λ j v. eliminate-same (marketIn r) (book-number h) (λ i. 0) j ∙ eliminate-alike A X (λ l w. refl) j v)
+        (zeros-within (from-zeros U T)) i (omega (arith, A .proposing .size))
+
+    -- so the answer is document 01's
+    pub book-precedes : {j k : ℕ} → j < rotationCount b → k < rotationCount b → (j ≡ k → ⊥) →
+        pastIn (r .n) (r .«man_ranks») numbers (startIn numbers j) (requiredPlaces (marketIn r) (numberIn numbers k)) ≡ bookPrecedes b j k
+    unfolding precedes
+    book-precedes {j} {k} g h ne =
+        book-past (requiredPlaces (marketIn r) (numberIn numbers k)) g
+        ∙ (passed-agree (numbered-exposed R g) (book-required h)
+        ∙ ap (λ (t : Bool). both (not t) (passed (market b) (rotation (market b) j) (required (market b) (rotation (market b) k)))) (sym (ne-eqb j k ne)))
+
+-- no rotation precedes itself
+pub precedes-itself : (b : List ℕ) {j k : ℕ} → j ≡ k → bookPrecedes b j k ≡ false
+unfolding precedes
+precedes-itself b {j} {k} e = ap (λ (t : Bool). both (not t) (passed (market b) (rotation (market b) j) (required (market b) (rotation (market b) k)))) (eq-eqb j k e)
+
+module _ (b : List ℕ) (first second : ℕ) where
+  -- the book is refused
+  pub numbers-book : {number place more : ℕ} → checkBook b ≡ refused number place more → checkNumbers b first second ≡ refused number place more
+  unfolding checkNumbers
+  numbers-book e = stays (checkBook b) (rule (either (leb (rotationCount b) first) (leb (rotationCount b) second)) 11 0 fine) e ∙ e
+
+  module _ (e : checkBook b ≡ fine) where
+    -- a number that no rotation has
+    pub numbers-first : rotationCount b ≤ first → checkNumbers b first second ≡ broken 11 0
+    unfolding checkNumbers
+    numbers-first l =
+        goes-on (checkBook b) (rule (either (leb (rotationCount b) first) (leb (rotationCount b) second)) 11 0 fine) e
+        ∙ ap (λ (t : Bool). rule (either t (leb (rotationCount b) second)) 11 0 fine) (le-leb (rotationCount b) first l)
+
+    pub numbers-second : rotationCount b ≤ second → checkNumbers b first second ≡ broken 11 0
+    unfolding checkNumbers
+    numbers-second l =
+        goes-on (checkBook b) (rule (either (leb (rotationCount b) first) (leb (rotationCount b) second)) 11 0 fine) e
+        ∙ ap (λ (t : Bool). rule t 11 0 fine) (ap (either (leb (rotationCount b) first)) (le-leb (rotationCount b) second l) ∙ either-true (leb (rotationCount b) first))
+
+    -- both have one
+    pub numbers-fine : first < rotationCount b → second < rotationCount b → checkNumbers b first second ≡ fine
+    unfolding checkNumbers
+    numbers-fine g h =
+        goes-on (checkBook b) (rule (either (leb (rotationCount b) first) (leb (rotationCount b) second)) 11 0 fine) e
+        ∙ ap (λ (t : Bool). rule t 11 0 fine) (ap₂ either (lt-leb (rotationCount b) first g) (lt-leb (rotationCount b) second h))
+
+-- the reply on a refusal, and where nothing is refused
+pub saying-refused : {v : Verdict} {number place second : ℕ} → v ≡ refused number place second → (t : Bool) {r : Answer} → r ≡ refusal number place second → r ≡ saying v t
+saying-refused e t q = q ∙ sym (ap (λ (w : Verdict). saying w t) e)
+
+pub saying-fine : {v : Verdict} → v ≡ fine → {t u : Bool} → t ≡ u → {r : Answer} → r ≡ says t → r ≡ saying v u
+saying-fine e {u = u} f q = q ∙ (ap says f ∙ sym (ap (λ (w : Verdict). saying w u) e))

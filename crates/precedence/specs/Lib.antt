@@ -1,0 +1,2 @@
+-- The order of rotations: what its contracts and proofs cite. Assumes nothing.
+pub mod Laws

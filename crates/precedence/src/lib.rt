@@ -1,0 +1,6 @@
+// The order of rotations. `precedes` takes bytes and has no `requires`; the others read a list of rotations.
+mod precedence;
+
+pub use precedence::next_start;
+pub use precedence::past;
+pub use precedence::precedes;

@@ -1,0 +1,2 @@
+-- Filling the tables row by row. Assumes nothing.
+pub mod Fills

@@ -1,0 +1,84 @@
+-- The answer of a book and a matching, of bytes: it is fixed exactly where every stable matching holds the pair, and otherwise the repair that
+-- document 01 takes, which moves fewest. Assumes nothing.
+use Prim.Native.Nat.{ℕ, _<_}
+use mathlib.Core.Path.{_≡_, refl, sym, _∙_}
+use mathlib.Core.List.{List, _++_}
+use mathlib.Core.Logic.{_↔_}
+use native.Mathlib.Omega.{arith}
+use lib.ListN.{take, drop}
+use lib.Seq.{take-at}
+use Rattle.laws.specs.Values.{length-values}
+use Rattle.format.specs.Format.{people}
+use Rattle.stable_theory.specs.Matchings.Matching.{partners}
+use Rattle.stable_theory.specs.Repairs.Repair.{Parts, Fixed, IsDown, IsUp, weight}
+use Rattle.stable_theory.specs.Repairs.Answer.{Answer, Answers, nearer-up, nearer-down, neither, Nearest}
+use Rattle.stable_theory.specs.Repairs.AnswerLaws.{answer-right}
+use Rattle.matchings.specs.BookMarket.{market, market-proper}
+use Rattle.matchings.specs.Matching.{vectorOf}
+use Rattle.matchings.specs.Extreme.{matchingOf}
+use Rattle.matchings.specs.StableCheck.{StableIn, fine-stable}
+use Rattle.matchings.specs.StableVector.{matching-of, vector-stable, fine-vector, vector-fine, vector-back}
+use Rattle.repairs.specs.Repair.{movedCount, fixed, replyFor, matchingAfter}
+use Rattle.repairs.specs.Laws.Bytes.{same-byte, moved-count, moved-vector}
+use Rattle.repairs.specs.Laws.RepairBytes.{RepairAt, holds, without-parts, repair-bytes, repair-vector}
+use Rattle.repairs.specs.Promise.{InEvery, Without, NoWorse, NoBetter, Takes, takes-up, takes-down, Fewest}
+
+-- the n bytes that are written are the matching
+pub written-bytes : (b : List ℕ) (v : ℕ → ℕ) (out : List ℕ) → take (people b) (matchingOf b v ++ drop (people b) out) ≡ matchingOf b v
+written-bytes b v out = take-at (matchingOf b v) (drop (people b) out) (people b) (length-values (partners (market b) v) 0 (people b))
+
+module _ {b m : List ℕ} (S : StableIn b m) {s : ℕ} (l : s < people b) where
+  -- up and down with the relation of their side
+  up-at : {v : ℕ → ℕ} → IsUp (market b) (vectorOf b m) s v → RepairAt NoWorse (market b) (vectorOf b m) s v
+  up-at K = record { parts = K .parts; toward = K .before; last = λ P le. K .last P le }
+
+  at-up : {v : ℕ → ℕ} → RepairAt NoWorse (market b) (vectorOf b m) s v → IsUp (market b) (vectorOf b m) s v
+  at-up K = record { parts = K .parts; before = K .toward; last = λ P le. K .last P le }
+
+  down-at : {v : ℕ → ℕ} → IsDown (market b) (vectorOf b m) s v → RepairAt NoBetter (market b) (vectorOf b m) s v
+  down-at K = record { parts = K .parts; toward = K .after; last = λ P le. K .first P le }
+
+  at-down : {v : ℕ → ℕ} → RepairAt NoBetter (market b) (vectorOf b m) s v → IsDown (market b) (vectorOf b m) s v
+  at-down K = record { parts = K .parts; after = K .toward; first = λ P le. K .last P le }
+
+  -- the pair is fixed in vectors exactly where it is in bytes
+  pub every-fixed : InEvery b m s → Fixed (market b) (vectorOf b m) s
+  every-fixed E k K =
+      sym (vector-back (S .matching .formed) K l) ∙ same-byte (S .matching) (matching-of (S .matching .formed) K) l .0 (E (matchingOf b k) (vector-fine (S .matching .formed) K))
+
+  pub fixed-every : Fixed (market b) (vectorOf b m) s → InEvery b m s
+  fixed-every K k e = same-byte (S .matching) (fine-stable b k .0 e .matching) l .1 (K (vectorOf b k) (fine-vector b k e))
+
+  -- the distances of bytes are the weights of vectors
+  far : {v : ℕ → ℕ} → Parts (market b) (vectorOf b m) s v → movedCount (people b) m (matchingOf b v) ≡ weight (market b) (λ i. 1) (vectorOf b m) v
+  far K = moved-vector (S .matching) (K .stable)
+
+  far-bytes : (k : List ℕ) → Without b m s k → movedCount (people b) m k ≡ weight (market b) (λ i. 1) (vectorOf b m) (vectorOf b k)
+  far-bytes k K = moved-count (S .matching) (fine-stable b k .0 (K .stable) .matching)
+
+  -- what no vector undercuts no matching does
+  fewest : {v : ℕ → ℕ} → Nearest (market b) (λ i. 1) (vectorOf b m) s v → Fewest b m s (matchingOf b v)
+  fewest N k K = omega (arith, far (N .parts), far-bytes k K, N .nearest (without-parts S l k K))
+
+  -- the reply is fixed exactly where every stable matching holds the pair
+  pub reply-fixed : {a : Answer} → Answers (market b) (λ i. 1) (vectorOf b m) s a → replyFor b m a ≡ fixed ↔ InEvery b m s
+  reply-fixed (nearer-up K f) =
+      (λ e. let z : _≡_ {A = ℕ} 0 1 = cc in absurd (omega arith), λ E. absurd (K .parts .without (every-fixed E _ (K .parts .stable))))
+  reply-fixed (nearer-down K f) =
+      (λ e. let z : _≡_ {A = ℕ} 0 1 = cc in absurd (omega arith), λ E. absurd (K .parts .without (every-fixed E _ (K .parts .stable))))
+  reply-fixed (neither n k) = (λ e. fixed-every (answer-right (market-proper (S .matching .formed)) (λ i. 1) (vector-stable S) (holds S l) (neither n k)), λ E. refl)
+
+  -- and else it is the repair that document 01 takes, which moves fewest
+  pub reply-takes : (out : List ℕ) {a : Answer} → Answers (market b) (λ i. 1) (vectorOf b m) s a → (InEvery b m s → ⊥) →
+      Takes b m s (take (people b) (matchingAfter b a out)) (replyFor b m a) × Fewest b m s (take (people b) (matchingAfter b a out))
+  reply-takes out (nearer-up {u} K f) n =
+      rw (written-bytes b u out) (
+        takes-up (repair-bytes S l (up-at K)) (λ d X. omega (arith, far (K .parts), far-bytes d (X .parts), f (vectorOf b d) (at-down (repair-vector S l d X)))),
+        fewest (answer-right (market-proper (S .matching .formed)) (λ i. 1) (vector-stable S) (holds S l) (nearer-up K f)),
+      )
+  reply-takes out (nearer-down {d} K f) n =
+      rw (written-bytes b d out) (
+        takes-down (repair-bytes S l (down-at K)) (λ u X. omega (arith, far (K .parts), far-bytes u (X .parts), f (vectorOf b u) (at-up (repair-vector S l u X)))),
+        fewest (answer-right (market-proper (S .matching .formed)) (λ i. 1) (vector-stable S) (holds S l) (nearer-down K f)),
+      )
+  reply-takes out (neither k j) n = absurd (n (reply-fixed (neither k j) .0 refl))

@@ -1,0 +1,13 @@
+-- `denied_reply` meets its contract: a byte is the number that it stands for. Assumes nothing.
+use borrow.Author.Needs.{needs}
+use Rattle.replies.proofs.replies.denied_reply.Statement.{statement}
+use Rattle.replies.proofs.replies.denied_reply.Tie as tie
+
+wide-requires : tie.Need-wide-requires
+wide-requires c κs = search needs
+
+returns : tie.Need-returns
+returns c = cc
+
+pub denied-reply-spec : {M : Type 1} → statement M
+denied-reply-spec = tie.close (tie.spec wide-requires returns)

@@ -1,0 +1,120 @@
+// The answers of the crates below as replies.
+use crate::reply::Reply;
+use format::Checked;
+use format::Refusal;
+use repairs::Answer;
+use repairs::Graded;
+use rotations::Listed;
+use rotations::Precedence;
+use sheets::Written;
+ghost use mathlib.Core.Path.{_≡_};
+ghost use Rattle.format.specs.Verdict.{verdictOf};
+ghost use Rattle.repairs.specs.Grade.{replyOf as gradeIn};
+ghost use Rattle.repairs.specs.Repair.{replyOf as answerIn};
+ghost use Rattle.rotations.specs.Precedence.{answerOf as precedenceIn};
+ghost use Rattle.rotations.specs.RotationList.{replyOf as countIn};
+ghost use Rattle.sheets.specs.Reply.{replyOf as bytesIn};
+ghost use Rattle.replies.specs.Replies.{granted, denied, lettered, replyFor};
+ghost use Rattle.replies.specs.Answers.{answerReply, gradeReply, countReply, precedenceReply, bytesReply};
+
+// Nothing is refused.
+fn granted_reply(place: usize, value: usize) -> Reply
+    ensures { λ r. ⌜ r ≡ granted place value ⌝ }
+{
+    Reply {
+        number: 0,
+        place,
+        second: 0,
+        letter: 0,
+        value,
+    }
+}
+
+// A rule is broken.
+fn denied_reply(refusal: Refusal) -> Reply
+    ensures { λ r. ⌜ r ≡ denied (refusal .number) (refusal .place) (refusal .second) ⌝ }
+{
+    Reply {
+        number: book::wide(refusal.number),
+        place: refusal.place,
+        second: refusal.second,
+        letter: 0,
+        value: 0,
+    }
+}
+
+// The reply for the answer of a check: where nothing is refused, the place and the value.
+pub fn verdict_reply(checked: Checked, place: usize, value: usize) -> Reply
+    ensures { λ r. ⌜ r ≡ replyFor (verdictOf checked) place value ⌝ }
+{
+    match checked {
+        Checked::Fine => granted_reply(place, value),
+        Checked::Refused(refusal) => denied_reply(refusal),
+    }
+}
+
+// The reply for a repair: the letter and the distance.
+pub fn answer_reply(answer: Answer) -> Reply
+    ensures { λ r. ⌜ r ≡ answerReply (answerIn answer) ⌝ }
+{
+    match answer {
+        Answer::Up(repair) => letter_reply(b'U', repair.distance),
+        Answer::Down(repair) => letter_reply(b'D', repair.distance),
+        Answer::Fixed => letter_reply(b'F', 0),
+        Answer::Refused(refusal) => denied_reply(refusal),
+    }
+}
+
+// The reply for a grade.
+pub fn grade_reply(graded: Graded) -> Reply
+    ensures { λ r. ⌜ r ≡ gradeReply (gradeIn graded) ⌝ }
+{
+    match graded {
+        Graded::Grade(grade) => granted_reply(0, grade),
+        Graded::Refused(refusal) => denied_reply(refusal),
+    }
+}
+
+// The reply for a number of rotations.
+pub fn count_reply(listed: Listed) -> Reply
+    ensures { λ r. ⌜ r ≡ countReply (countIn listed) ⌝ }
+{
+    match listed {
+        Listed::Count(count) => granted_reply(0, count),
+        Listed::Refused(refusal) => denied_reply(refusal),
+    }
+}
+
+// The reply for the order of two rotations: 1 for yes.
+pub fn precedence_reply(precedence: Precedence) -> Reply
+    ensures { λ r. ⌜ r ≡ precedenceReply (precedenceIn precedence) ⌝ }
+{
+    match precedence {
+        Precedence::Yes => granted_reply(0, 1),
+        Precedence::No => granted_reply(0, 0),
+        Precedence::Refused(refusal) => denied_reply(refusal),
+    }
+}
+
+// The reply for a sheet: its number of bytes.
+pub fn bytes_reply(written: Written) -> Reply
+    ensures { λ r. ⌜ r ≡ bytesReply (bytesIn written) ⌝ }
+{
+    match written {
+        Written::Bytes(count) => granted_reply(0, count),
+        Written::Refused(refusal) => denied_reply(refusal),
+    }
+}
+
+// A letter and a distance.
+fn letter_reply(letter: u8, distance: usize) -> Reply
+    ensures { λ r. ⌜ r ≡ lettered letter distance ⌝ }
+{
+    Reply {
+        number: 0,
+        place: 0,
+        second: 0,
+        letter: book::wide(letter),
+        value: distance,
+    }
+}

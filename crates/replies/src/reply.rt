@@ -1,0 +1,11 @@
+// The reply of the C interface.
+
+// The reply of every call: 0 and the result, or the number of the broken rule with its places.
+#[repr(C)]
+pub struct Reply {
+    pub number: usize,
+    pub place: usize,
+    pub second: usize,
+    pub letter: usize,
+    pub value: usize,
+}

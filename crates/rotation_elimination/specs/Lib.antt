@@ -1,0 +1,2 @@
+-- One rotation as numbers: what the contracts and proofs cite. Assumes nothing.
+pub mod Laws

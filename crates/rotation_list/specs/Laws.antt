@@ -1,0 +1,3 @@
+-- From the numbers of the run to the reply and the bytes. Assumes nothing.
+pub mod Replies
+pub mod BookList

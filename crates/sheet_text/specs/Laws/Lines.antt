@@ -1,0 +1,97 @@
+-- How long the lines are, and the lines of all pairs one after the other: what the loop that puts them knows. Assumes nothing.
+use Prim.Native.Nat.{ℕ, zero, suc, _+_, _*_, _≤_, _<_}
+use mathlib.Core.Path.{_≡_, refl, sym, _∙_, ap}
+use mathlib.Core.List.{List, _++_}
+use native.Mathlib.Omega.{arith}
+use native.Mathlib.Numerals.{add-one}
+use lib.ListN.{length, length-append}
+use Rattle.laws.specs.Choice.{same}
+use Rattle.laws.specs.Overwrite.{overwritten-none}
+use Rattle.sheets.specs.Decimal.{decimal}
+use Rattle.sheets.specs.Line.{line, topLine, pairLine, pairLines, refusalLine}
+use Rattle.sheet_text.specs.Put.{Put}
+use Rattle.sheet_text.specs.Laws.Decimal.{decimal-short}
+use Rattle.sheet_text.specs.Laws.Put.{put-on, put-long}
+
+-- how long the lines are
+pub top-length : (n r g : ℕ) → length (topLine n r g) ≡ length (decimal n) + length (decimal r) + length (decimal g) + 3
+unfolding topLine line
+top-length n r g = simp length-append (omega arith)
+
+pub pair-length : (s w l d : ℕ) → length (pairLine s w l d) ≡ length (decimal s) + length (decimal w) + length (decimal d) + 5
+unfolding pairLine line
+pair-length s w l d = simp length-append (omega arith)
+
+pub refusal-length : (k : ℕ) → length (refusalLine k) ≡ length (decimal k) + 9
+unfolding refusalLine line
+refusal-length k = simp length-append (omega arith)
+
+-- at most 11 bytes each, and a refusal with any byte for a number at most 12
+pub top-short : {n r g : ℕ} → n < 100 → r < 10000 → g < 100 → length (topLine n r g) ≤ 11
+top-short {n} {r} {g} a b c = omega (arith, top-length n r g, decimal-short 1 n a, decimal-short 3 r b, decimal-short 1 g c)
+
+pub pair-short : {s w : ℕ} (l : ℕ) {d : ℕ} → s < 100 → w < 100 → d < 100 → length (pairLine s w l d) ≤ 11
+pair-short {s} {w} l {d} a b c = omega (arith, pair-length s w l d, decimal-short 1 s a, decimal-short 1 w b, decimal-short 1 d c)
+
+pub refusal-short : {k : ℕ} → k < 1000 → length (refusalLine k) ≤ 12
+refusal-short {k} h = omega (arith, refusal-length k, decimal-short 2 k h)
+
+module _ (w l d : ℕ → ℕ) where
+  -- one line more
+  pub lines-more : (k : ℕ) → pairLines w l d (k + 1) ≡ pairLines w l d k ++ pairLine k (w k) (l k) (d k)
+  unfolding pairLines
+  lines-more k = ap (pairLines w l d) (add-one k)
+
+  -- fewer lines are no longer
+  pub lines-within : (k n : ℕ) → k < n → length (pairLines w l d k) + length (pairLine k (w k) (l k) (d k)) ≤ length (pairLines w l d n)
+  unfolding pairLines
+  lines-within k zero h = absurd (omega arith)
+  lines-within k (suc n) h =
+      let e = length-append (pairLines w l d n) (pairLine n (w n) (l n) (d n)) in
+      same k n (λ q. rw q (omega arith)) (λ ne. omega (arith, lines-within k n (omega arith)))
+
+  -- k lines are at most 11 × k bytes
+  pub lines-short : (k : ℕ) → ((s : ℕ) → s < k → (s < 100) × (w s < 100) × (d s < 100)) → length (pairLines w l d k) ≤ 11 * k
+  unfolding pairLines
+  lines-short zero h = omega arith
+  lines-short (suc k) h =
+      let u = h k (omega arith) in
+      omega (arith, length-append (pairLines w l d k) (pairLine k (w k) (l k) (d k)), pair-short (l k) (u .0) (u .1) (u .2), lines-short k (λ s v. h s (omega arith)))
+
+-- equal fields, equal lines
+pub lines-same : {w l d v m e : ℕ → ℕ} (k : ℕ) → ((s : ℕ) → s < k → (w s ≡ v s) × (l s ≡ m s) × (d s ≡ e s)) → pairLines w l d k ≡ pairLines v m e k
+unfolding pairLines
+lines-same zero h = refl
+lines-same {w} {l} {d} {v} {m} {e} (suc k) h =
+    let u = h k (omega arith) in
+    rw (u .0, u .1, u .2, lines-same {w = w} {l = l} {d = d} {v = v} {m = m} {e = e} k (λ s r. h s (omega arith)))
+
+-- What the loop that puts the lines knows after k of them: they stand in the buffer, and there is room for the rest
+pub record LinesPut (w l d : ℕ → ℕ) (n : ℕ) (out : List ℕ) (at k : ℕ) (now : List ℕ) (j : ℕ) : Type 0 where
+  pub within : k ≤ n
+  pub put : Put out at (pairLines w l d k) now j
+  pub long : length now ≡ length out
+
+module _ {w l d : ℕ → ℕ} {n : ℕ} {out : List ℕ} {at : ℕ} (room : at + length (pairLines w l d n) ≤ length out) where
+  -- it starts
+  pub lines-start : LinesPut w l d n out at 0 out at
+  unfolding pairLines
+  lines-start = record { within = omega arith; put = record { next = omega arith; bytes = sym (overwritten-none out at) }; long = refl }
+
+  module _ {k : ℕ} {now : List ℕ} {j : ℕ} (P : LinesPut w l d n out at k now j) where
+    -- there is room for the next line
+    pub lines-room : k < n → j + length (pairLine k (w k) (l k) (d k)) ≤ length now
+    lines-room h = omega (arith, lines-within w l d k n h, P .put .next, P .long)
+
+    -- which is put
+    pub lines-on : {next : List ℕ} {i : ℕ} → k < n → Put now j (pairLine k (w k) (l k) (d k)) next i → LinesPut w l d n out at (k + 1) next i
+    lines-on {next} {i} h Q =
+        record {
+          within = omega arith;
+          put = rw (lines-more w l d k) (put-on (P .put) (omega arith) Q);
+          long = put-long Q (lines-room h) ∙ P .long;
+        }
+
+    -- and it ends
+    pub lines-end : n ≤ k → Put out at (pairLines w l d n) now j
+    lines-end h = let e : n ≡ k = omega (arith, P .within) in rw e (P .put)

@@ -1,0 +1,7 @@
+// The lines of a sheet put into a buffer. Each function has a `requires`: that there is room.
+mod lines;
+mod text;
+
+pub use lines::put_pairs;
+pub use lines::put_refused;
+pub use lines::put_top;

@@ -1,0 +1,84 @@
+// The lines of the sheet put into a buffer at a position; each function gives the position past what it put.
+use crate::text::put_byte;
+use crate::text::put_field;
+use book::wide;
+use format::Checked;
+ghost use Prim.Native.Nat.{_+_, _≤_};
+ghost use lib.ListN.{length};
+ghost use Rattle.laws.specs.Values.{vec};
+ghost use Rattle.format.specs.Verdict.{verdictOf};
+ghost use Rattle.sheets.specs.Line.{topLine, pairLine, pairLines, refusalLine, refusedLine};
+ghost use Rattle.sheet_text.specs.Put.{Put};
+
+// Line one: n, the number of rotations, the grade.
+pub fn put_top(out: &mut [u8], at: usize, n: usize, rotations: usize, grade: usize) -> usize
+    requires { ⌜ at + length (topLine n rotations grade) ≤ length (now out) ⌝ }
+    ensures { λ r. ⌜ Put (now (out .entry)) at (topLine n rotations grade) (now (out .exit)) r ⌝ }
+{
+    let second = put_field(out, at, n, b' ');
+    let third = put_field(out, second, rotations, b' ');
+    put_field(out, third, grade, b'\n')
+}
+
+// The line of a pair: man, woman, letter, distance.
+fn put_pair(
+    out: &mut [u8],
+    at: usize,
+    man: usize,
+    woman: usize,
+    letter: u8,
+    distance: usize,
+) -> usize
+    requires { ⌜ at + length (pairLine man woman letter distance) ≤ length (now out) ⌝ }
+    ensures { λ r. ⌜ Put (now (out .entry)) at (pairLine man woman letter distance) (now (out .exit)) r ⌝ }
+{
+    let second = put_field(out, at, man, b' ');
+    let third = put_field(out, second, woman, b' ');
+    let after = put_byte(out, third, letter);
+    let fourth = put_byte(out, after, b' ');
+    put_field(out, fourth, distance, b'\n')
+}
+
+// The lines of the pairs of n men.
+pub fn put_pairs(
+    out: &mut [u8],
+    at: usize,
+    n: usize,
+    matching: &[u8],
+    letters: &[u8],
+    distances: &[usize],
+) -> usize
+    requires { ⌜ (n ≤ length (now matching)) × (n ≤ length (now letters)) × (n ≤ length (now distances)) × (at + length (pairLines (vec (now matching)) (vec (now letters)) (vec (now distances)) n) ≤ length (now out)) ⌝ }
+    ensures { λ r. ⌜ Put (now (out .entry)) at (pairLines (vec (now (matching .entry))) (vec (now (letters .entry))) (vec (now (distances .entry))) n) (now (out .exit)) r ⌝ }
+{
+    let mut end = at;
+    let mut s = 0;
+    while s < n {
+        let woman = wide(matching[s]);
+        let letter = letters[s];
+        let distance = distances[s];
+        end = put_pair(out, end, s, woman, letter, distance);
+        s += 1;
+    }
+    end
+}
+
+// The line of a refusal, at the front.
+fn put_refusal(out: &mut [u8], number: usize) -> usize
+    requires { ⌜ length (refusalLine number) ≤ length (now out) ⌝ }
+    ensures { λ r. ⌜ Put (now (out .entry)) 0 (refusalLine number) (now (out .exit)) r ⌝ }
+{
+    let second = bytes::copy(b"refused ", out);
+    put_field(out, second, number, b'\n')
+}
+
+// The line of a check's answer that is a refusal, at the front; nothing where it is none.
+pub fn put_refused(out: &mut [u8], checked: Checked) -> usize
+    requires { ⌜ 12 ≤ length (now out) ⌝ }
+    ensures { λ r. ⌜ Put (now (out .entry)) 0 (refusedLine (verdictOf checked)) (now (out .exit)) r ⌝ }
+{
+    match checked {
+        Checked::Refused(r) => put_refusal(out, wide(r.number)),
+        Checked::Fine => 0,
+    }
+}

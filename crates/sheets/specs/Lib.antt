@@ -1,0 +1,6 @@
+-- The sheet in the words of document 01, and what its lines mean. Assumes nothing.
+pub mod Decimal
+pub mod Line
+pub mod Sheet
+pub mod Reply
+pub mod SheetLaws

@@ -1,0 +1,44 @@
+-- The lines of the sheet as bytes. Assumes nothing.
+use Prim.Native.Nat.{ℕ, zero, suc}
+use mathlib.Core.List.{List, [], _∷_, _++_}
+use Rattle.format.specs.Verdict.{Verdict, fine, refused}
+use Rattle.sheets.specs.Decimal.{decimal}
+
+-- The bytes between fields and after them
+abbrev pub space : ℕ
+space = 32
+
+abbrev pub lineFeed : ℕ
+lineFeed = 10
+
+-- A line: one space parts fields, and a line feed ends it
+unfoldable pub line : List (List ℕ) → List ℕ
+line [] = lineFeed ∷ []
+line (field ∷ []) = field ++ (lineFeed ∷ [])
+line (field ∷ next ∷ more) = field ++ (space ∷ line (next ∷ more))
+
+-- Line one: n, the number of rotations, the grade
+unfoldable pub topLine : ℕ → ℕ → ℕ → List ℕ
+topLine n rotations grade = line (decimal n ∷ decimal rotations ∷ decimal grade ∷ [])
+
+-- The line of a pair: student, mentor, letter, distance
+unfoldable pub pairLine : ℕ → ℕ → ℕ → ℕ → List ℕ
+pairLine man woman letter distance = line (decimal man ∷ decimal woman ∷ (letter ∷ []) ∷ decimal distance ∷ [])
+
+-- The lines of the students below k, with mentor w s, letter l s and distance d s for student s
+unfoldable pub pairLines : (ℕ → ℕ) → (ℕ → ℕ) → (ℕ → ℕ) → ℕ → List ℕ
+pairLines w l d zero = []
+pairLines w l d (suc k) = pairLines w l d k ++ pairLine k (w k) (l k) (d k)
+
+-- The word `refused`
+abbrev pub refusedWord : List ℕ
+refusedWord = 114 ∷ 101 ∷ 102 ∷ 117 ∷ 115 ∷ 101 ∷ 100 ∷ []
+
+-- The line of a refusal: the word and the number
+unfoldable pub refusalLine : ℕ → List ℕ
+refusalLine number = line (refusedWord ∷ decimal number ∷ [])
+
+-- The line of a verdict that is a refusal, and no bytes where it is none
+abbrev pub refusedLine : Verdict → List ℕ
+refusedLine fine = []
+refusedLine (refused number place second) = refusalLine number

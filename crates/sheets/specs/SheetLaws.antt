@@ -1,0 +1,96 @@
+-- What a sheet says: each line is demand 3's answer for its pair, and the grade is demand 3's grade. The words of the promises are those of
+-- crate repair, over all stable matchings of the book. Assumes nothing.
+use Prim.Native.Nat.{ℕ, _≤_, _<_}
+use mathlib.Core.Path.{_≡_}
+use mathlib.Core.List.{List, [], _++_}
+use mathlib.Core.Logic.{_↔_}
+use lib.ListN.{take}
+use Rattle.format.specs.Verdict.{fine, refused}
+use Rattle.format.specs.Format.{byte, people}
+use Rattle.stable_theory.specs.Repairs.Answer.{Answer, U, D, F}
+use Rattle.stable_theory.specs.Repairs.AnswerLaws.{answer-of}
+use Rattle.stable_theory.specs.Least.Optimal.{proposer-optimal}
+use Rattle.stable_theory.specs.Rotations.Numbering.{rotation}
+use Rattle.stable_theory.specs.Rotations.Canonical.{Canonical, rotations-canonical}
+use Rattle.matchings.specs.BookMarket.{market, market-proper}
+use Rattle.matchings.specs.Matching.{checkMatching}
+use Rattle.matchings.specs.StableCheck.{StableIn, fine-stable}
+use Rattle.matchings.specs.StableVector.{vector-stable}
+use Rattle.rotations.specs.RotationList.{rotationCount}
+use Rattle.repairs.specs.Repair.{Reply, up, down, fixed, answerFor, replyFor, matchingAfter}
+use Rattle.repairs.specs.Grade.{gradeOf}
+use Rattle.repairs.specs.Promise.{InEvery, Takes, Fewest, Covers}
+use Rattle.repairs.specs.Laws.RepairBytes.{holds}
+use Rattle.repairs.specs.Laws.AnswerBytes.{reply-fixed, reply-takes}
+use Rattle.repairs.specs.Laws.GradeBytes.{grade-covers, grade-least}
+use Rattle.sheets.specs.Line.{topLine, pairLines, refusalLine}
+use Rattle.sheets.specs.Sheet.{bookPart, matchingPart, letterOf, distanceOf, answers, sheetOf}
+
+-- A letter and a distance say a reply: U or D with the distance of the repair, F with 0
+pub data Says : ℕ → ℕ → Reply → Type 0 where
+  says-up : (d : ℕ) → Says 85 d (up d)
+  says-down : (d : ℕ) → Says 68 d (down d)
+  says-fixed : Says 70 0 fixed
+
+-- The letter and the distance of a line of the matching m of the book b, for the pair of student s: they say 'fixed' exactly where every stable
+-- matching holds the pair, and otherwise the repair that document 01 takes, and no stable matching without the pair moves fewer students
+pub record RightLine (b m : List ℕ) (s letter distance : ℕ) : Type 0 where
+  pub reply : Reply
+  pub says : Says letter distance reply
+  pub fixed-exactly : reply ≡ fixed ↔ InEvery b m s
+  pub taken : (InEvery b m s → ⊥) → (r : List ℕ) × Takes b m s r reply × Fewest b m s r
+
+-- A sheet of n students with the number of rotations, the grade, and a letter and a distance for each
+pub record RightSheet (b m : List ℕ) (sheet : List ℕ) : Type 0 where
+  pub grade : ℕ
+  pub letter : ℕ → ℕ
+  pub distance : ℕ → ℕ
+  pub text : sheet ≡ topLine (people b) (rotationCount b) grade ++ pairLines (byte m) letter distance (people b)
+  -- the rotations are those of document 01's list
+  pub numbered : Canonical (market b) (proposer-optimal (market b)) (rotationCount b) (rotation (market b))
+  -- each line is right
+  pub lines : {s : ℕ} → s < people b → RightLine b m s (letter s) (distance s)
+  -- the grade is the least number such that for each pair that is not fixed some stable matching without it moves at most so many others
+  pub covers : Covers b m grade
+  pub least : (g : ℕ) → Covers b m g → grade ≤ g
+
+-- the letter and the distance of an answer say its reply
+answer-says : (b m : List ℕ) (a : Answer) → Says (letterOf a) (distanceOf b m a) (replyFor b m a)
+answer-says b m (U v) = says-up _
+answer-says b m (D v) = says-down _
+answer-says b m F = says-fixed
+
+-- so each line is right
+line-right : {b m : List ℕ} → StableIn b m → {s : ℕ} → s < people b → RightLine b m s (letterOf (answerFor b m s)) (distanceOf b m (answerFor b m s))
+line-right {b} {m} S {s} u =
+    let A = answer-of (market-proper (S .matching .formed)) (λ i. 1) (vector-stable S) (holds S u) in
+    record {
+      reply = replyFor b m (answerFor b m s);
+      says = answer-says b m (answerFor b m s);
+      fixed-exactly = reply-fixed S u A;
+      taken = λ n. (take (people b) (matchingAfter b (answerFor b m s) []), reply-takes S u [] A n .0, reply-takes S u [] A n .1);
+    }
+
+module _ (input : List ℕ) where
+  -- Where the check answered stable, the sheet is right
+  pub sheet-right : checkMatching (bookPart input) (matchingPart input) ≡ fine → RightSheet (bookPart input) (matchingPart input) (sheetOf input)
+  unfolding sheetOf answers
+  sheet-right f =
+      let b = bookPart input in
+      let m = matchingPart input in
+      let S = fine-stable b m .0 f in
+      record {
+        grade = gradeOf b m;
+        letter = λ s. letterOf (answerFor b m s);
+        distance = λ s. distanceOf b m (answerFor b m s);
+        text = rw f;
+        numbered = rotations-canonical (market-proper (S .matching .formed));
+        lines = λ u. line-right S u;
+        covers = grade-covers S;
+        least = grade-least S;
+      }
+
+  -- and otherwise it is the line of the refusal
+  pub sheet-refused : {number place second : ℕ} → checkMatching (bookPart input) (matchingPart input) ≡ refused number place second → sheetOf input ≡ refusalLine number
+  unfolding sheetOf
+  sheet-refused e = rw e

@@ -1,0 +1,127 @@
+// The writer: a book from n and 2 × n × n list bytes.
+use book::bytes_at;
+use book::check_list;
+use book::refuse;
+use book::size_of;
+use format::Checked;
+use format::Instance;
+ghost use mathlib.Core.Path.{_≡_};
+ghost use mathlib.Core.List.{_++_};
+ghost use Prim.Native.Nat.{_+_, _*_, _<_, _≤_};
+ghost use lib.Dec.{ltb};
+ghost use lib.ListN.{length, drop};
+ghost use Rattle.laws.specs.Overwrite.{overwritten};
+ghost use Rattle.format.specs.Verdict.{fine, rule, verdictOf};
+ghost use Rattle.format.specs.Format.{largest, listsStart, size};
+ghost use Rattle.format.specs.Write.{Counted, checkGiven, checkWrite, pairBytes, directory, bookOf, written};
+
+// Writes the book of n and the list bytes to the front of `out`, or says which rule stands against it and where.
+// A refusal leaves `out` as it was, and a success leaves what is past the book.
+pub fn write(n: usize, lists: &[u8], out: &mut [u8]) -> Checked
+    ensures verdict { λ r. ⌜ verdictOf r ≡ checkWrite n (now (lists .entry)) (length (now (out .entry))) ⌝ }
+    ensures bytes { λ _. ⌜ now (out .exit) ≡ written (checkWrite n (now (lists .entry)) (length (now (out .entry)))) n (now (lists .entry)) (now (out .entry)) ⌝ }
+{
+    let room = out.len();
+    let checked = check_write(n, lists, room);
+    let Checked::Fine = checked else {
+        return checked;
+    };
+    fill(n, lists, out);
+    checked
+}
+
+// The verdict on n, the list bytes and the room for the book.
+fn check_write(n: usize, lists: &[u8], room: usize) -> Checked
+    ensures { λ r. ⌜ verdictOf r ≡ checkWrite n (now (lists .entry)) room ⌝ }
+{
+    if Instance::LARGEST < n {
+        return refuse(3, 1);
+    }
+    let len = lists.len();
+    let count = 2 * (n * n);
+    if len < count {
+        return refuse(1, len);
+    }
+    if count < len {
+        return refuse(4, count);
+    }
+    let checked = check_given(n, lists);
+    let Checked::Fine = checked else {
+        return checked;
+    };
+    check_room(n, room)
+}
+
+// Rule 14: there is room for the book.
+fn check_room(n: usize, room: usize) -> Checked
+    requires { ⌜ n ≤ largest ⌝ }
+    ensures { λ r. ⌜ verdictOf r ≡ rule (ltb room (size n)) 14 0 fine ⌝ }
+{
+    if room < size_of(n) {
+        return refuse(14, 0);
+    }
+    Checked::Fine
+}
+
+// Rules 6 and 7: the verdict on the first list that breaks one. Places count from the first list byte.
+fn check_given(n: usize, lists: &[u8]) -> Checked
+    requires { ⌜ Counted n (now lists) ⌝ }
+    ensures { λ r. ⌜ verdictOf r ≡ checkGiven n (now (lists .entry)) ⌝ }
+{
+    let mut k = 0;
+    while k < 2 * n {
+        let at = k * n;
+        let checked = check_list(bytes_at(lists, at, n), n, at);
+        let Checked::Fine = checked else {
+            return checked;
+        };
+        k += 1;
+    }
+    Checked::Fine
+}
+
+// Writes the book, for which there is room.
+fn fill(n: usize, lists: &[u8], out: &mut [u8])
+    requires { ⌜ (Counted n (now lists)) × (size n ≤ length (now out)) ⌝ }
+    ensures { λ _. ⌜ now (out .exit) ≡ bookOf n (now (lists .entry)) ++ drop (size n) (now (out .entry)) ⌝ }
+{
+    out[0] = 1;
+    out[1] = n as u8;
+    fill_directory(n, out);
+    copy(lists, out, 2 + 8 * n);
+}
+
+// Writes the directory pairs, from byte 2 on.
+fn fill_directory(n: usize, out: &mut [u8])
+    requires { ⌜ (n ≤ largest) × (listsStart n ≤ length (now out)) ⌝ }
+    ensures { λ _. ⌜ now (out .exit) ≡ overwritten (now (out .entry)) 2 (directory n (2 * n)) ⌝ }
+{
+    let mut k = 0;
+    while k < 2 * n {
+        put_pair(out, 2 + 4 * k, 2 + 8 * n + k * n, n);
+        k += 1;
+    }
+}
+
+// Writes a directory pair at `at`: offset and length, two bytes each, low byte first.
+fn put_pair(out: &mut [u8], at: usize, offset: usize, len: usize)
+    requires { ⌜ (at + 4 ≤ length (now out)) × (offset < 65536) × (len < 65536) ⌝ }
+    ensures { λ _. ⌜ now (out .exit) ≡ overwritten (now (out .entry)) at (pairBytes offset len) ⌝ }
+{
+    out[at] = (offset % 256) as u8;
+    out[at + 1] = (offset / 256) as u8;
+    out[at + 2] = (len % 256) as u8;
+    out[at + 3] = (len / 256) as u8;
+}
+
+// Copies the bytes of `from` into `out` from `at` on.
+fn copy(from: &[u8], out: &mut [u8], at: usize)
+    requires { ⌜ at + length (now from) ≤ length (now out) ⌝ }
+    ensures { λ _. ⌜ now (out .exit) ≡ overwritten (now (out .entry)) at (now (from .entry)) ⌝ }
+{
+    let mut j = 0;
+    while j < from.len() {
+        out[at + j] = from[j];
+        j += 1;
+    }
+}
