@@ -1,5 +1,6 @@
-// Books: the check (rules 1 to 7) and one person's list. Contracts cite the definitions of crate `format`; specs/ has the laws of the loops.
-// No function on bytes that other crates call has a `requires`, but for those that read a field.
+// Books: the check (rules 1 to 7) and one person's list. Contracts cite the definitions of crate `format`; specs/ has
+// the laws of the loops. `check`, `book_end`, `first_faulty` and the functions on one person take any bytes; those that
+// read a field, cut a part out or check one list serve the crates above, and have a `requires`.
 mod field;
 mod lists;
 mod person;

@@ -15,4 +15,5 @@ pub refused-unchanged :
     checkRequest b m q (length out) (length gains) ≡ refused number place second →
     (repairMatching b m q out gains ≡ out) × (repairGains b m q out gains ≡ gains)
 refused-unchanged b m q out gains e =
-    (ap (λ (v : Verdict). writtenIf v (matchingAfter b (answerFor b m (byte q 0)) out) out) e, ap (λ (v : Verdict). writtenIf v (gainsAfter b m (answerFor b m (byte q 0)) gains) gains) e)
+    let a = answerFor b m (byte q 0) in
+    (ap (λ (v : Verdict). writtenIf v (matchingAfter b a out) out) e, ap (λ (v : Verdict). writtenIf v (gainsAfter b m a gains) gains) e)

@@ -1,4 +1,4 @@
--- Repairs and the grade in the words of document 01, and demand 3. Laws proves it. Assumes nothing.
+-- Repairs and the grade in the words of document 01, and demands 1 and 3 of them. Laws proves them. Assumes nothing.
 pub mod Request
 pub mod Repair
 pub mod Grade
