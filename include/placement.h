@@ -97,7 +97,7 @@ struct placement_reply placement_matching_to_set(const uint8_t *book, size_t boo
                                                  uint8_t *out, size_t out_len);
 
 /* The sheet of a book with a matching after it, as the sheet program prints it (also `refused N`), to out.
- * value: bytes written. Refused: 14 only; 1,024 bytes are always enough. */
+ * value: bytes written. Refused: 14 only; 715 bytes are always enough. */
 struct placement_reply placement_sheet(const uint8_t *input, size_t input_len, uint8_t *out, size_t out_len);
 
 #ifdef __cplusplus

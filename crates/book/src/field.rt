@@ -1,9 +1,16 @@
-// Reads: numbers and parts of some bytes; of a book, the directory and one list; and its size.
+// Parts of a book that is long enough for them: a directory pair, one list, and the book's own end; and its size.
+use crate::directory::people_in;
+use crate::refusal::refuse;
+use format::Checked;
+use format::Instance;
 ghost use mathlib.Core.Path.{_≡_};
 ghost use Prim.Native.Nat.{_+_, _*_, _<_, _≤_, min};
 ghost use lib.ListN.{length, take, drop};
+ghost use Rattle.laws.specs.Moment.{now₀};
+ghost use Rattle.format.specs.Verdict.{verdictOf};
 ghost use Rattle.format.specs.Format.{people, word, offset, listLength, stretch, size};
 ghost use Rattle.format.specs.Check.{Listed};
+ghost use Rattle.format.specs.Write.{checkSize};
 
 // A byte as a number.
 pub fn wide(x: u8) -> usize
@@ -13,9 +20,9 @@ pub fn wide(x: u8) -> usize
 }
 
 // The two bytes at `at`, low byte first.
-pub(crate) fn word_at(b: &[u8], at: usize) -> usize
+fn word_at(b: &[u8], at: usize) -> usize
     requires { ⌜ at + 1 < length (now b) ⌝ }
-    ensures { λ r. ⌜ (r ≡ word (now (b .entry)) at) × (r < 65536) ⌝ }
+    ensures { λ r. ⌜ (r ≡ word (now₀ b) at) × (r < 65536) ⌝ }
 {
     let low = wide(b[at]);
     let high = wide(b[at + 1]);
@@ -25,7 +32,7 @@ pub(crate) fn word_at(b: &[u8], at: usize) -> usize
 // The `len` bytes from `at` on.
 pub fn bytes_at(b: &[u8], at: usize, len: usize) -> &[u8]
     requires { ⌜ at + len ≤ length (now b) ⌝ }
-    ensures { λ r. ⌜ now r ≡ take len (drop at (now (b .entry))) ⌝ }
+    ensures { λ r. ⌜ now r ≡ take len (drop at (now₀ b)) ⌝ }
 {
     let end = at + len;
     &b[at..end]
@@ -34,7 +41,7 @@ pub fn bytes_at(b: &[u8], at: usize, len: usize) -> &[u8]
 // The offset of list k, from the directory.
 pub(crate) fn offset_of(b: &[u8], k: usize) -> usize
     requires { ⌜ 5 + 4 * k < length (now b) ⌝ }
-    ensures { λ r. ⌜ (r ≡ offset (now (b .entry)) k) × (r < 65536) ⌝ }
+    ensures { λ r. ⌜ (r ≡ offset (now₀ b) k) × (r < 65536) ⌝ }
 {
     word_at(b, 2 + 4 * k)
 }
@@ -42,7 +49,7 @@ pub(crate) fn offset_of(b: &[u8], k: usize) -> usize
 // The length of list k, from the directory.
 pub fn length_of(b: &[u8], k: usize) -> usize
     requires { ⌜ 5 + 4 * k < length (now b) ⌝ }
-    ensures { λ r. ⌜ (r ≡ listLength (now (b .entry)) k) × (r < 65536) ⌝ }
+    ensures { λ r. ⌜ (r ≡ listLength (now₀ b) k) × (r < 65536) ⌝ }
 {
     word_at(b, 4 + 4 * k)
 }
@@ -50,7 +57,7 @@ pub fn length_of(b: &[u8], k: usize) -> usize
 // List k, from its directory offset.
 pub fn list_of(b: &[u8], k: usize) -> &[u8]
     requires { ⌜ Listed (now b) k ⌝ }
-    ensures { λ r. ⌜ now r ≡ stretch (now (b .entry)) k ⌝ }
+    ensures { λ r. ⌜ now r ≡ stretch (now₀ b) k ⌝ }
 {
     let at = offset_of(b, k);
     let len = length_of(b, k);
@@ -65,15 +72,22 @@ pub fn size_of(n: usize) -> usize
     2 + 8 * n + 2 * (n * n)
 }
 
-// Where the book ends in bytes that begin with one: after as many as its byte 1 says, or where they end before.
+// Rule 3 on a number of men: a book holds no more than the largest n.
+pub fn check_size(n: usize) -> Checked
+    ensures { λ r. ⌜ verdictOf r ≡ checkSize n ⌝ }
+{
+    if Instance::LARGEST < n {
+        return refuse(3, 1);
+    }
+    Checked::Fine
+}
+
+// Where the book ends in bytes that begin with one: after as many as its n says, or where they end before.
 pub fn book_end(input: &[u8]) -> usize
-    ensures { λ r. ⌜ r ≡ min (size (people (now (input .entry)))) (length (now (input .entry))) ⌝ }
+    ensures { λ r. ⌜ r ≡ min (size (people (now₀ input))) (length (now₀ input)) ⌝ }
 {
     let len = input.len();
-    if len < 2 {
-        return len;
-    }
-    let size = size_of(wide(input[1]));
+    let size = size_of(people_in(input));
     if len < size {
         return len;
     }

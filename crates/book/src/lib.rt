@@ -1,14 +1,23 @@
-// Books: the check (rules 1 to 7) and one person's list. Contracts cite the definitions of crate `format`; specs/ has
-// the laws of the loops. `check`, `book_end`, `first_faulty` and the functions on one person take any bytes; those that
-// read a field, cut a part out or check one list serve the crates above, and have a `requires`.
+// Books: the check (rules 1 to 7), one person's list, and what the crates above read of a book, a row of entries and a
+// set of marks. Contracts cite the definitions of crate `format`; specs/Laws/ has the laws of the loops.
+//
+// `check`, `book_end`, `people_in`, `first_faulty` and the functions on one person take any bytes. Those that read or
+// write an entry or a mark, cut a part out or check one list serve the crates above, and have a `requires`.
+mod directory;
 mod field;
 mod lists;
 mod person;
 mod refusal;
+mod row;
 mod rules;
 
+pub use directory::ListPlace;
+pub use directory::man_place;
+pub use directory::people_in;
+pub use directory::woman_place;
 pub use field::book_end;
 pub use field::bytes_at;
+pub use field::check_size;
 pub use field::length_of;
 pub use field::list_of;
 pub use field::size_of;
@@ -19,5 +28,11 @@ pub use person::check_man;
 pub use person::check_woman;
 pub use person::man_list;
 pub use person::woman_list;
+pub use refusal::count_after;
 pub use refusal::refuse;
+pub use row::entry_in;
+pub use row::mark_in;
+pub use row::put_entry;
+pub use row::put_mark;
+pub use row::put_number;
 pub use rules::check;

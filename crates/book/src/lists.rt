@@ -1,26 +1,29 @@
-// Rules 6 and 7 on one list.
+// Rules 6 and 7 on one list, a row of entries.
 use crate::field::wide;
 use crate::refusal::refuse;
+use crate::row::entry_in;
 use format::Checked;
 ghost use mathlib.Core.Path.{_≡_};
 ghost use Prim.Native.Nat.{ℕ, _≤_, _<_};
 ghost use lib.Dec.{eqb};
 ghost use lib.ListN.{length};
 ghost use Rattle.laws.specs.Marks.{Marks, among};
+ghost use Rattle.laws.specs.Moment.{now₀, now₁, vec₀};
 ghost use Rattle.laws.specs.Sum.{sum, count};
+ghost use Rattle.laws.specs.Values.{vec};
 ghost use Rattle.format.specs.Verdict.{verdictOf};
-ghost use Rattle.format.specs.Format.{byte};
+ghost use Rattle.format.specs.Format.{entryIn};
 ghost use Rattle.format.specs.Lists.{firstFaulty, checkList};
 
 // The place of the first entry of the list that is n or more or stands earlier in it, or the list's length.
 // Entries that were met are marked, so that each is looked at once.
 pub fn first_faulty(list: &[u8], n: usize) -> usize
-    ensures { λ r. ⌜ r ≡ firstFaulty n (byte (now (list .entry))) (length (now (list .entry))) ⌝ }
+    ensures { λ r. ⌜ r ≡ firstFaulty n (entryIn (now₀ list)) (length (now₀ list)) ⌝ }
 {
     let mut marks = [0u8; 256];
     let mut j = 0;
     while j < list.len() {
-        let e = wide(list[j]);
+        let e = entry_in(list, j);
         if n <= e {
             return j;
         }
@@ -35,12 +38,12 @@ pub fn first_faulty(list: &[u8], n: usize) -> usize
 
 // Marks each entry of the list.
 fn mark_all(list: &[u8], marks: &mut [u8; 256])
-    requires { ⌜ Marks 256 (byte (now list)) 0 (now marks) ⌝ }
-    ensures { λ _. ⌜ Marks 256 (byte (now (list .entry))) (length (now (list .entry))) (now (marks .exit)) ⌝ }
+    requires { ⌜ Marks 256 (entryIn (now list)) 0 (now marks) ⌝ }
+    ensures { λ _. ⌜ Marks 256 (entryIn (now₀ list)) (length (now₀ list)) (now₁ marks) ⌝ }
 {
     let mut j = 0;
     while j < list.len() {
-        let e = wide(list[j]);
+        let e = entry_in(list, j);
         marks[e] = 1;
         j += 1;
     }
@@ -48,8 +51,8 @@ fn mark_all(list: &[u8], marks: &mut [u8; 256])
 
 // How many of the first n marks are set. The sum is kept in a byte, so that many marks are added at a time.
 fn count_marks(marks: &[u8], n: usize) -> usize
-    requires { ⌜ (n ≤ length (now marks)) × (n < 256) × ((v : ℕ) → v < n → byte (now marks) v ≤ 1) ⌝ }
-    ensures { λ r. ⌜ r ≡ sum n (byte (now (marks .entry))) ⌝ }
+    requires { ⌜ (n ≤ length (now marks)) × (n < 256) × ((v : ℕ) → v < n → vec (now marks) v ≤ 1) ⌝ }
+    ensures { λ r. ⌜ r ≡ sum n (vec₀ marks) ⌝ }
 {
     let mut found: u8 = 0;
     let mut v = 0;
@@ -60,22 +63,22 @@ fn count_marks(marks: &[u8], n: usize) -> usize
     wide(found)
 }
 
-// Whether the list names all of 0 to n - 1; where it has n entries, it then names each once. The entries are marked without a test and the
-// marks are counted.
+// Whether the list names all of 0 to n - 1; where it has n entries, it then names each once. The entries are marked
+// without a test and the marks are counted.
 fn names_all(list: &[u8], n: usize) -> bool
     requires { ⌜ n < 256 ⌝ }
-    ensures { λ r. ⌜ r ≡ eqb (count n (among (byte (now (list .entry))) (length (now (list .entry))))) n ⌝ }
+    ensures { λ r. ⌜ r ≡ eqb (count n (among (entryIn (now₀ list)) (length (now₀ list)))) n ⌝ }
 {
     let mut marks = [0u8; 256];
     mark_all(list, &mut marks);
     count_marks(&marks, n) == n
 }
 
-// Rules 6 and 7 on a list whose first entry stands at place `at`: the first entry that breaks one is refused, by 6 where it is n or more.
-// It is searched for only where a list of n entries does not name all.
+// Rules 6 and 7 on a list whose first entry stands at place `at`: the first entry that breaks one is refused, by 6
+// where it is n or more. It is searched for only where a list of n entries does not name all.
 pub fn check_list(list: &[u8], n: usize, at: usize) -> Checked
     requires { ⌜ (n < 256) × (at < 65536) ⌝ }
-    ensures { λ r. ⌜ verdictOf r ≡ checkList n (byte (now (list .entry))) (length (now (list .entry))) at ⌝ }
+    ensures { λ r. ⌜ verdictOf r ≡ checkList n (entryIn (now₀ list)) (length (now₀ list)) at ⌝ }
 {
     if list.len() == n {
         if names_all(list, n) {
@@ -86,7 +89,7 @@ pub fn check_list(list: &[u8], n: usize, at: usize) -> Checked
     if list.len() <= j {
         return Checked::Fine;
     }
-    if n <= wide(list[j]) {
+    if n <= entry_in(list, j) {
         return refuse(6, at + j);
     }
     refuse(7, at + j)

@@ -1,5 +1,6 @@
 // One person's list, and the check beside it. The men are side 0 and the women side 1: person `number` of a side has
 // list `side * n + number`.
+use crate::directory::people_in;
 use crate::field::list_of;
 use crate::field::wide;
 use crate::refusal::refuse;
@@ -9,19 +10,20 @@ use format::Man;
 use format::Woman;
 ghost use mathlib.Core.Path.{_≡_};
 ghost use Prim.Native.Nat.{_+_, _*_, _<_};
+ghost use Rattle.laws.specs.Moment.{now₀};
 ghost use Rattle.format.specs.Verdict.{verdictOf};
 ghost use Rattle.format.specs.Format.{people, stretch};
 ghost use Rattle.format.specs.Person.{checkPerson, ifFine, manList, womanList};
 
 // The check of a book, then rule 11: nobody on a side has the number.
 fn check_person(book: &[u8], number: u8) -> Checked
-    ensures { λ r. ⌜ verdictOf r ≡ checkPerson (now (book .entry)) number ⌝ }
+    ensures { λ r. ⌜ verdictOf r ≡ checkPerson (now₀ book) number ⌝ }
 {
     let checked = check(book);
     let Checked::Fine = checked else {
         return checked;
     };
-    if book[1] <= number {
+    if people_in(book) <= wide(number) {
         return refuse(11, 0);
     }
     Checked::Fine
@@ -30,40 +32,41 @@ fn check_person(book: &[u8], number: u8) -> Checked
 // The list of person `number` of a side, or no bytes on a refusal.
 fn person_list(book: &[u8], side: usize, number: u8) -> &[u8]
     requires { ⌜ side < 2 ⌝ }
-    ensures { λ r. ⌜ now r ≡ ifFine (checkPerson (now (book .entry)) number) (stretch (now (book .entry)) (side * people (now (book .entry)) + number)) ⌝ }
+    ensures { λ r. ⌜ now r ≡ ifFine (checkPerson (now₀ book) number)
+        (stretch (now₀ book) (side * people (now₀ book) + number)) ⌝ }
 {
     let checked = check_person(book, number);
     let Checked::Fine = checked else {
         return &book[..0];
     };
-    let n = wide(book[1]);
+    let n = people_in(book);
     list_of(book, side * n + wide(number))
 }
 
 // The check beside a man's list.
 pub fn check_man(book: &[u8], m: Man) -> Checked
-    ensures { λ r. ⌜ verdictOf r ≡ checkPerson (now (book .entry)) (m .0) ⌝ }
+    ensures { λ r. ⌜ verdictOf r ≡ checkPerson (now₀ book) (m .0) ⌝ }
 {
     check_person(book, m.0)
 }
 
 // The check beside a woman's list.
 pub fn check_woman(book: &[u8], w: Woman) -> Checked
-    ensures { λ r. ⌜ verdictOf r ≡ checkPerson (now (book .entry)) (w .0) ⌝ }
+    ensures { λ r. ⌜ verdictOf r ≡ checkPerson (now₀ book) (w .0) ⌝ }
 {
     check_person(book, w.0)
 }
 
 // A man's list: the stretch of the book that has it, or no bytes on a refusal.
 pub fn man_list(book: &[u8], m: Man) -> &[u8]
-    ensures { λ r. ⌜ now r ≡ manList (now (book .entry)) (m .0) ⌝ }
+    ensures { λ r. ⌜ now r ≡ manList (now₀ book) (m .0) ⌝ }
 {
     person_list(book, 0, m.0)
 }
 
 // A woman's list: the stretch of the book that has it, or no bytes on a refusal.
 pub fn woman_list(book: &[u8], w: Woman) -> &[u8]
-    ensures { λ r. ⌜ now r ≡ womanList (now (book .entry)) (w .0) ⌝ }
+    ensures { λ r. ⌜ now r ≡ womanList (now₀ book) (w .0) ⌝ }
 {
     person_list(book, 1, w.0)
 }

@@ -1,23 +1,24 @@
 // The check of a book.
+use crate::directory::people_in;
 use crate::field::length_of;
 use crate::field::list_of;
 use crate::field::offset_of;
 use crate::field::size_of;
-use crate::field::wide;
 use crate::lists::check_list;
 use crate::refusal::refuse;
 use format::Checked;
 use format::Instance;
 ghost use mathlib.Core.Path.{_≡_};
-ghost use Prim.Native.Nat.{_+_, _*_};
+ghost use Prim.Native.Nat.{_*_};
+ghost use Rattle.laws.specs.Moment.{now₀};
 ghost use Rattle.format.specs.Verdict.{verdictOf};
 ghost use Rattle.format.specs.Format.{offset, listLength, entry};
 ghost use Rattle.format.specs.Lists.{checkLists};
-ghost use Rattle.format.specs.Check.{firstMisfiled, checkBook, Sized, Filed};
+ghost use Rattle.format.specs.Check.{firstWrongPair, checkBook, Sized, RightPairs};
 
 // Says whether a book is well formed, or the first rule that it breaks and where.
 pub fn check(book: &[u8]) -> Checked
-    ensures { λ r. ⌜ verdictOf r ≡ checkBook (now (book .entry)) ⌝ }
+    ensures { λ r. ⌜ verdictOf r ≡ checkBook (now₀ book) ⌝ }
 {
     let len = book.len();
     if len < 2 {
@@ -26,7 +27,7 @@ pub fn check(book: &[u8]) -> Checked
     if book[0] != 1 {
         return refuse(2, 0);
     }
-    let n = wide(book[1]);
+    let n = people_in(book);
     if Instance::LARGEST < n {
         return refuse(3, 1);
     }
@@ -37,17 +38,18 @@ pub fn check(book: &[u8]) -> Checked
     if size < len {
         return refuse(4, size);
     }
-    let pair = first_misfiled(book, n);
+    let pair = first_wrong_pair(book, n);
     if pair < 2 * n {
         return refuse(5, 2 + 4 * pair);
     }
     check_lists(book, n)
 }
 
-// The first directory pair that is not as it has to be, or 2 * n: a list starts where the one before ended and has n entries.
-fn first_misfiled(book: &[u8], n: usize) -> usize
+// The first directory pair that is not as it has to be, or 2 * n: a list starts where the one before ended and has n
+// entries.
+fn first_wrong_pair(book: &[u8], n: usize) -> usize
     requires { ⌜ Sized (now book) n ⌝ }
-    ensures { λ r. ⌜ r ≡ firstMisfiled (now (book .entry)) ⌝ }
+    ensures { λ r. ⌜ r ≡ firstWrongPair (now₀ book) ⌝ }
 {
     let mut due = 2 + 8 * n;
     let mut k = 0;
@@ -68,8 +70,8 @@ fn first_misfiled(book: &[u8], n: usize) -> usize
 
 // Rules 6 and 7: the verdict on the first list that breaks one.
 fn check_lists(book: &[u8], n: usize) -> Checked
-    requires { ⌜ Filed (now book) n ⌝ }
-    ensures { λ r. ⌜ verdictOf r ≡ checkLists n (entry (now (book .entry))) (listLength (now (book .entry))) (offset (now (book .entry))) (2 * n) ⌝ }
+    requires { ⌜ RightPairs (now book) n ⌝ }
+    ensures { λ r. ⌜ verdictOf r ≡ checkLists n (entry (now₀ book)) (listLength (now₀ book)) (offset (now₀ book)) (2 * n) ⌝ }
 {
     let mut k = 0;
     while k < 2 * n {

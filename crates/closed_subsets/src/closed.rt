@@ -1,5 +1,6 @@
-// Closed sets: the marks of a set, the places of its matching, and whether these are stable and past its rotations and no others, which is
-// whether it is closed.
+// Closed sets: the marks of a set, the places of its matching, and whether these are stable and past its rotations and
+// no others, which is whether it is closed.
+use book::mark_in;
 use format::Instance;
 use matchings::Places;
 use precedence::next_start;
@@ -7,35 +8,35 @@ use precedence::past;
 use rotation_elimination::eliminate;
 ghost use mathlib.Core.Path.{_≡_};
 ghost use mathlib.Core.Bool.{not};
-ghost use Prim.Native.Nat.{ℕ, _*_, _≤_, _<_};
+ghost use Prim.Native.Nat.{ℕ, _*_, _≤_};
 ghost use lib.Dec.{ltb, eqb};
 ghost use lib.ListN.{length, take};
+ghost use Rattle.tables.specs.Lists.{Tables, tables, market, Sound};
+ghost use Rattle.laws.specs.Moment.{now₀, now₁, vec₀};
+ghost use Rattle.format.specs.Record.{Record, lent};
+ghost use Rattle.instances.specs.Usable.{Usable, marketIn};
 ghost use Rattle.laws.specs.Choice.{pick, either};
 ghost use Rattle.laws.specs.First.{some};
 ghost use Rattle.laws.specs.Values.{vec};
-ghost use Rattle.format.specs.Format.{byte, largest};
+ghost use Rattle.format.specs.Format.{largest, markIn};
 ghost use Rattle.stable_theory.specs.Stable.Vector.{Within};
-ghost use Rattle.proposals.specs.Lists.{Tables, marketOf};
-ghost use Rattle.extremes.specs.Usable.{Usable, marketIn};
 ghost use Rattle.rotations.specs.Sets.{member};
-ghost use Rattle.format.specs.Record.{recordOf};
-ghost use Rattle.rotation_elimination.specs.Laws.Written.{rotationIn};
-ghost use Rattle.precedence.specs.Laws.ListRead.{startIn, pastIn, Readable};
-ghost use Rattle.rotation_elimination.specs.Laws.EliminateCode.{Eliminable};
-ghost use Rattle.closed_subsets.specs.Laws.SetCode.{EliminatedIf, SetReady, SetEliminated};
-ghost use Rattle.closed_subsets.specs.Laws.PlaceTests.{AgreeIs, SameIs, StableIs, ClosesIs};
-ghost use Rattle.closed_subsets.specs.Laws.SetPlaces.{SetPlaces};
+ghost use Rattle.rotation_elimination.specs.Written.{rotationIn};
+ghost use Rattle.precedence.specs.ListRead.{pastNumber, Readable};
+ghost use Rattle.rotation_elimination.specs.Elimination.{Eliminable};
+ghost use Rattle.closed_subsets.specs.SetPlaces.{EliminatedIf, SetReady, SetEliminated, SetPlaces};
+ghost use Rattle.closed_subsets.specs.PlaceTests.{AgreeIs, StableIs, ClosesIs};
 
-// Whether a set has not one byte a rotation, or a byte is over 1.
+// Whether a set has not one mark a rotation, or a mark is over 1.
 pub fn bad_marks(set: &[u8], count: usize) -> bool
-    ensures { λ r. ⌜ r ≡ either (not (eqb (length (now (set .entry))) count)) (some (λ k. ltb 1 (byte (now (set .entry)) k)) (length (now (set .entry)))) ⌝ }
+    ensures { λ r. ⌜ r ≡ either (not (eqb (length (now₀ set)) count)) (some (λ k. ltb 1 (markIn (now₀ set) k)) (length (now₀ set))) ⌝ }
 {
     if set.len() != count {
         return true;
     }
     let mut k = 0;
     while k < set.len() {
-        if 1 < set[k] {
+        if 1 < mark_in(set, k) {
             return true;
         }
         k += 1;
@@ -55,7 +56,8 @@ fn eliminate_marked<'a>(
     t: &mut [u16],
 )
     requires { ⌜ Eliminable n n (now pranks) (now rranks) (now list) at (now p) (now t) ⌝ }
-    ensures { λ _. ⌜ EliminatedIf mark n (now (pranks .entry)) (now (rranks .entry)) (rotationIn (now (list .entry)) at) (now (p .entry)) (now (t .entry)) (vec (now (list .entry)) at) (now (p .exit)) (now (t .exit)) ⌝ }
+    ensures { λ _. ⌜ EliminatedIf mark n (now₀ pranks) (now₀ rranks) (rotationIn (now₀ list) at) (now₀ p) (now₀ t)
+        (vec₀ list at) (now₁ p) (now₁ t) ⌝ }
 {
     if mark == 1 {
         eliminate(n, n, pranks, rranks, list, at, p, t);
@@ -73,12 +75,12 @@ fn eliminate_set<'a>(
     t: &mut [u16],
 )
     requires { ⌜ SetReady n (length (now set)) (now pranks) (now rranks) (now list) (now p) (now t) ⌝ }
-    ensures { λ _. ⌜ SetEliminated n (now (pranks .entry)) (now (list .entry)) (now (set .entry)) (now (p .entry)) (length (now (set .entry))) (now (p .exit)) ⌝ }
+    ensures { λ _. ⌜ SetEliminated n (now₀ pranks) (now₀ list) (now₀ set) (now₀ p) (length (now₀ set)) (now₁ p) ⌝ }
 {
     let mut at: usize = 0;
     let mut k = 0;
     while k < set.len() {
-        eliminate_marked(set[k], n, pranks, rranks, list, at, p, t);
+        eliminate_marked(mark_in(set, k), n, pranks, rranks, list, at, p, t);
         at = next_start(list, at);
         k += 1;
     }
@@ -95,12 +97,12 @@ fn agrees(yes: bool, mark: u8) -> bool
 fn has_set(n: usize, ranks: &[u16], list: &[u16], set: &[u8], places: &[u16]) -> bool
     requires { ⌜ Readable n (length (now set)) (now list) ⌝ }
     requires { ⌜ (n ≤ length (now places)) × (n * n ≤ length (now ranks)) ⌝ }
-    ensures { λ r. ⌜ AgreeIs (length (now (set .entry))) (λ k. pastIn n (now (ranks .entry)) (now (list .entry)) (startIn (now (list .entry)) k) (vec (now (places .entry)))) (member (now (set .entry))) r ⌝ }
+    ensures { λ r. ⌜ AgreeIs (length (now₀ set)) (pastNumber n (now₀ ranks) (now₀ list) (vec₀ places)) (member (now₀ set)) r ⌝ }
 {
     let mut at: usize = 0;
     let mut k = 0;
     while k < set.len() {
-        if !agrees(past(n, ranks, list, at, places), set[k]) {
+        if !agrees(past(n, ranks, list, at, places), mark_in(set, k)) {
             return false;
         }
         at = next_start(list, at);
@@ -112,7 +114,7 @@ fn has_set(n: usize, ranks: &[u16], list: &[u16], set: &[u8], places: &[u16]) ->
 // Whether the first n places of two vectors are the same.
 fn same_places(n: usize, p: &[u16], q: &[u16]) -> bool
     requires { ⌜ (n ≤ length (now p)) × (n ≤ length (now q)) ⌝ }
-    ensures { λ r. ⌜ SameIs n (vec (now (p .entry))) (vec (now (q .entry))) r ⌝ }
+    ensures { λ r. ⌜ AgreeIs n (vec₀ p) (vec₀ q) r ⌝ }
 {
     let mut i = 0;
     while i < n {
@@ -127,30 +129,20 @@ fn same_places(n: usize, p: &[u16], q: &[u16]) -> bool
 // Whether places are stable: whether deferred acceptance from them leaves them as they are and calls them stable.
 fn is_stable<'a>(
     n: usize,
-    mlens: &'a [u16],
     mlists: &'a [u16],
-    wlens: &'a [u16],
     wlists: &'a [u16],
     wranks: &'a [u16],
     men: [u16; Instance::LARGEST],
 ) -> bool
-    requires { ⌜ Tables n n (now mlens) (now mlists) (now wlens) (now wlists) (now wranks) × (n ≤ largest) ⌝ }
-    requires { ⌜ Within (marketOf n n (now mlens) (now mlists) (now wlens) (now wlists)) (vec men) × (length men ≡ largest) ⌝ }
-    ensures { λ r. ⌜ StableIs (marketOf n n (now (mlens .entry)) (now (mlists .entry)) (now (wlens .entry)) (now (wlists .entry))) (vec men) r ⌝ }
+    ghost { Tables }
+    requires { λ K. ⌜ tables n n mlists wlists wranks ≡ K ⌝ }
+    requires { λ K. ⌜ Sound K × (n ≤ largest) ⌝ }
+    requires { λ K. ⌜ Within (market K) (vec men) × (length men ≡ largest) ⌝ }
+    ensures { λ K r. ⌜ StableIs (market K) (vec men) r ⌝ }
 {
     let mut p = men;
     let mut t = [0u16; Instance::LARGEST];
-    let stable = deferred::least(
-        n,
-        n,
-        mlens,
-        mlists,
-        wlens,
-        wlists,
-        wranks,
-        &mut p[..n],
-        &mut t[..n],
-    );
+    let stable = deferred::least(n, n, mlists, wlists, wranks, &mut p[..n], &mut t[..n]);
     if !stable {
         return false;
     }
@@ -167,8 +159,9 @@ pub fn set_places<'a>(
     set: &[u8],
 ) -> [u16; Instance::LARGEST]
     requires { ⌜ SetReady n (length (now set)) (now mranks) (now wranks) (now list) (take n (places .men)) (take n (places .women)) ⌝ }
-    requires { ⌜ (n ≤ largest) × (length (places .men) ≡ largest) × (length (places .women) ≡ largest) × ((i : ℕ) → n ≤ i → vec (places .men) i ≡ 0) ⌝ }
-    ensures { λ r. ⌜ SetPlaces n (now (mranks .entry)) (now (list .entry)) (now (set .entry)) (places .men) r ⌝ }
+    requires { ⌜ (n ≤ largest) × (length (places .men) ≡ largest) × (length (places .women) ≡ largest) ×
+        ((i : ℕ) → n ≤ i → vec (places .men) i ≡ 0) ⌝ }
+    ensures { λ r. ⌜ SetPlaces n (now₀ mranks) (now₀ list) (now₀ set) (places .men) r ⌝ }
 {
     let mut men = places.men;
     let mut women = places.women;
@@ -179,22 +172,23 @@ pub fn set_places<'a>(
 // Whether places are stable and past the rotations of a set and no others.
 pub fn closes<'a>(
     n: usize,
-    mlens: &'a [u16],
     mlists: &'a [u16],
     mranks: &'a [u16],
-    wlens: &'a [u16],
     wlists: &'a [u16],
     wranks: &'a [u16],
     list: &[u16],
     set: &[u8],
     men: [u16; Instance::LARGEST],
 ) -> bool
-    requires { ⌜ Usable (recordOf n (now mlens) (now mlists) (now mranks) (now wlens) (now wlists) (now wranks)) ⌝ }
-    requires { ⌜ Within (marketIn (recordOf n (now mlens) (now mlists) (now mranks) (now wlens) (now wlists) (now wranks))) (vec men) × (length men ≡ largest) ⌝ }
-    requires { ⌜ Readable n (length (now set)) (now list) ⌝ }
-    ensures { λ r. ⌜ ClosesIs (marketIn (recordOf n (now (mlens .entry)) (now (mlists .entry)) (now (mranks .entry)) (now (wlens .entry)) (now (wlists .entry)) (now (wranks .entry)))) (vec men) (length (now (set .entry))) (λ k. pastIn n (now (mranks .entry)) (now (list .entry)) (startIn (now (list .entry)) k) (vec men)) (member (now (set .entry))) r ⌝ }
+    ghost { Record }
+    requires { λ R. ⌜ lent n mlists mranks wlists wranks ≡ R ⌝ }
+    requires { λ R. ⌜ Usable R ⌝ }
+    requires { λ R. ⌜ Within (marketIn R) (vec men) × (length men ≡ largest) ⌝ }
+    requires { λ _. ⌜ Readable n (length (now set)) (now list) ⌝ }
+    ensures { λ R r. ⌜ ClosesIs (marketIn R) (vec men) (length (now₀ set))
+        (pastNumber n (now₀ mranks) (now₀ list) (vec men)) (member (now₀ set)) r ⌝ }
 {
-    if !is_stable(n, mlens, mlists, wlens, wlists, wranks, men) {
+    if !is_stable(n, mlists, wlists, wranks, men) {
         return false;
     }
     has_set(n, mranks, list, set, &men)

@@ -1,4 +1,4 @@
--- The least settled vector: the visits of the start, and what the chains leave. Assumes nothing.
-pub mod Pass
+-- Deferred acceptance: what contracts cite; Laws has what only proofs cite. Assumes nothing.
 pub mod Passes
-pub mod AnyStart
+pub mod Settled
+pub mod Laws

@@ -1,117 +1,104 @@
-// The least settled vector: chains from whoever is beaten, and whether the vector that is left is stable.
+// The least settled vector: chains from whoever is rejected, and whether the vector that is left is stable.
 use crate::visits::clear;
 use crate::visits::visit_all;
 use proposals::chain;
-use proposals::entry;
 use proposals::holds;
-use proposals::wide;
+use tables::entry;
+use tables::list_at;
+use tables::list_len;
+use tables::wide;
 ghost use mathlib.Core.Path.{_≡_};
-ghost use Prim.Native.Nat.{_+_, _*_, _≤_, _<_};
+ghost use Prim.Native.Nat.{_*_, _≤_, _<_};
 ghost use lib.ListN.{length};
+ghost use Rattle.laws.specs.Moment.{now₀, vec₀, vec₁};
 ghost use Rattle.laws.specs.Table.{cell};
-ghost use Rattle.stable_theory.specs.Stable.Market.{Proper};
-ghost use Rattle.stable_theory.specs.Stable.Vector.{Within};
 ghost use Rattle.laws.specs.Values.{vec};
-ghost use Rattle.proposals.specs.Lists.{Tables, Stored, Sized, sideOf, marketOf};
-ghost use Rattle.proposals.specs.Answers.{losing, HeldIs};
-ghost use Rattle.deferred.specs.AnyStart.{WholeIs, SettledBelow, Settles};
+ghost use Rattle.stable_theory.specs.Stable.Market.{Market, Proper};
+ghost use Rattle.stable_theory.specs.Stable.Vector.{Within};
+ghost use Rattle.tables.specs.Lists.{Tables, tables, market, Sound, Stored, Sized, sideOf, marketOf};
+ghost use Rattle.proposals.specs.Tests.{outranked, HeldIs};
+ghost use Rattle.deferred.specs.Settled.{WholeIs, SettledBelow, Settles};
 
-// Whether proposer i is beaten: whether the best rank of the receiver whom he holds is better than his.
-fn beaten(
+// Whether proposer i is rejected: whether the best rank of the receiver whom he holds is better than his.
+fn rejected(
     a: usize,
     b: usize,
-    plens: &[u16],
     plists: &[u16],
     ranks: &[u16],
     p: &[u16],
     t: &[u16],
     i: usize,
 ) -> bool
-    requires { ⌜ Stored a b (now plens) (now plists) ⌝ }
+    requires { ⌜ Stored a b (now plists) ⌝ }
     requires { ⌜ b * a ≤ length (now ranks) ⌝ }
     requires { ⌜ Sized a b (now p) (now t) ⌝ }
     requires { ⌜ i < a ⌝ }
-    ensures { λ r. ⌜ r ≡ losing (sideOf a b (now (plens .entry)) (now (plists .entry))) (cell (now (ranks .entry)) a) (vec (now (p .entry))) (vec (now (t .entry))) i ⌝ }
+    ensures { λ r. ⌜ r ≡ outranked (sideOf a b (now₀ plists)) (cell (now₀ ranks) a) (vec₀ p) (vec₀ t) i ⌝ }
 {
     let place = wide(p[i]);
-    if wide(plens[i]) <= place {
+    if list_len(plists, a, b, i) <= place {
         return false;
     }
-    let w = entry(plists, b, i, place);
+    let w = list_at(plists, b, i, place);
     wide(t[w]) < entry(ranks, a, w, i)
 }
 
-// Each proposer in turn, if beaten, starts a chain.
+// Each proposer in turn, if rejected, starts a chain.
 fn settle_all(
     a: usize,
     b: usize,
-    plens: &[u16],
     plists: &[u16],
-    rlens: &[u16],
     rlists: &[u16],
     ranks: &[u16],
     p: &mut [u16],
     t: &mut [u16],
 )
-    requires { ⌜ Tables a b (now plens) (now plists) (now rlens) (now rlists) (now ranks) ⌝ }
-    requires { ⌜ Sized a b (now p) (now t) ⌝ }
-    requires { ⌜ SettledBelow (marketOf a b (now plens) (now plists) (now rlens) (now rlists)) (vec (now p)) 0 (vec (now p)) (vec (now t)) ⌝ }
-    ensures { λ _. ⌜ SettledBelow (marketOf a b (now (plens .entry)) (now (plists .entry)) (now (rlens .entry)) (now (rlists .entry))) (vec (now (p .entry))) a (vec (now (p .exit))) (vec (now (t .exit))) ⌝ }
+    ghost { Tables }
+    requires { λ K. ⌜ tables a b plists rlists ranks ≡ K ⌝ }
+    requires { λ K. ⌜ Sound K ⌝ }
+    requires { λ _. ⌜ Sized a b (now p) (now t) ⌝ }
+    requires { λ K. ⌜ SettledBelow (market K) (vec (now p)) 0 (vec (now p)) (vec (now t)) ⌝ }
+    ensures { λ K _. ⌜ SettledBelow (market K) (vec₀ p) a (vec₁ p) (vec₁ t) ⌝ }
 {
     let mut i = 0;
     while i < a {
-        if beaten(a, b, plens, plists, ranks, p, t, i) {
-            chain(a, b, plens, plists, rlens, rlists, ranks, p, t, i);
+        if rejected(a, b, plists, ranks, p, t, i) {
+            chain(a, b, plists, rlists, ranks, p, t, i);
         }
         i += 1;
     }
 }
 
 // Whether receiver w, if anybody has come to her, is held by the proposer at her best rank.
-fn held(
-    a: usize,
-    b: usize,
-    plens: &[u16],
-    plists: &[u16],
-    rlens: &[u16],
-    rlists: &[u16],
-    p: &[u16],
-    t: &[u16],
-    w: usize,
-) -> bool
-    requires { ⌜ Stored a b (now plens) (now plists) ⌝ }
-    requires { ⌜ Stored b a (now rlens) (now rlists) ⌝ }
-    requires { ⌜ Sized a b (now p) (now t) ⌝ }
-    requires { ⌜ w < b ⌝ }
-    ensures { λ r. ⌜ (Proper (marketOf a b (now (plens .entry)) (now (plists .entry)) (now (rlens .entry)) (now (rlists .entry))) → HeldIs (marketOf a b (now (plens .entry)) (now (plists .entry)) (now (rlens .entry)) (now (rlists .entry))) (vec (now (p .entry))) (vec (now (t .entry))) w r) ⌝ }
+fn held(a: usize, b: usize, plists: &[u16], rlists: &[u16], p: &[u16], t: &[u16], w: usize) -> bool
+    ghost { Market }
+    requires { λ I. ⌜ marketOf a b (now plists) (now rlists) ≡ I ⌝ }
+    requires { λ _. ⌜ Stored a b (now plists) ⌝ }
+    requires { λ _. ⌜ Stored b a (now rlists) ⌝ }
+    requires { λ _. ⌜ Sized a b (now p) (now t) ⌝ }
+    requires { λ _. ⌜ w < b ⌝ }
+    ensures { λ I r. ⌜ (Proper I → HeldIs I (vec₀ p) (vec₀ t) w r) ⌝ }
 {
     let best = wide(t[w]);
-    if wide(rlens[w]) <= best {
+    if list_len(rlists, b, a, w) <= best {
         return true;
     }
-    let i = entry(rlists, a, w, best);
-    holds(b, plens, plists, p, i, w)
+    let i = list_at(rlists, a, w, best);
+    holds(a, b, plists, p, i, w)
 }
 
 // Whether every receiver to whom anybody has come is so held.
-fn whole(
-    a: usize,
-    b: usize,
-    plens: &[u16],
-    plists: &[u16],
-    rlens: &[u16],
-    rlists: &[u16],
-    p: &[u16],
-    t: &[u16],
-) -> bool
-    requires { ⌜ Stored a b (now plens) (now plists) ⌝ }
-    requires { ⌜ Stored b a (now rlens) (now rlists) ⌝ }
-    requires { ⌜ Sized a b (now p) (now t) ⌝ }
-    ensures { λ r. ⌜ (Proper (marketOf a b (now (plens .entry)) (now (plists .entry)) (now (rlens .entry)) (now (rlists .entry))) → WholeIs (marketOf a b (now (plens .entry)) (now (plists .entry)) (now (rlens .entry)) (now (rlists .entry))) (vec (now (p .entry))) (vec (now (t .entry))) r) ⌝ }
+fn whole(a: usize, b: usize, plists: &[u16], rlists: &[u16], p: &[u16], t: &[u16]) -> bool
+    ghost { Market }
+    requires { λ I. ⌜ marketOf a b (now plists) (now rlists) ≡ I ⌝ }
+    requires { λ _. ⌜ Stored a b (now plists) ⌝ }
+    requires { λ _. ⌜ Stored b a (now rlists) ⌝ }
+    requires { λ _. ⌜ Sized a b (now p) (now t) ⌝ }
+    ensures { λ I r. ⌜ (Proper I → WholeIs I (vec₀ p) (vec₀ t) r) ⌝ }
 {
     let mut w = 0;
     while w < b {
-        if !held(a, b, plens, plists, rlens, rlists, p, t, w) {
+        if !held(a, b, plists, rlists, p, t, w) {
             return false;
         }
         w += 1;
@@ -119,26 +106,26 @@ fn whole(
     true
 }
 
-// The least settled vector at or after the start p, which is within its bounds: p becomes that vector and t its best ranks.
-// The answer is whether it is stable; then t is its other side.
+// The least settled vector at or after the start p, which is within its bounds: p becomes that vector and t its best
+// ranks. The answer is whether it is stable; then t is its other side.
 pub fn least<'a>(
     a: usize,
     b: usize,
-    plens: &'a [u16],
     plists: &'a [u16],
-    rlens: &'a [u16],
     rlists: &'a [u16],
     ranks: &'a [u16],
     p: &mut [u16],
     t: &mut [u16],
 ) -> bool
-    requires { ⌜ Tables a b (now plens) (now plists) (now rlens) (now rlists) (now ranks) ⌝ }
-    requires { ⌜ Sized a b (now p) (now t) ⌝ }
-    requires { ⌜ Within (marketOf a b (now plens) (now plists) (now rlens) (now rlists)) (vec (now p)) ⌝ }
-    ensures { λ r. ⌜ Settles (marketOf a b (now (plens .entry)) (now (plists .entry)) (now (rlens .entry)) (now (rlists .entry))) (vec (now (p .entry))) (vec (now (p .exit))) (vec (now (t .exit))) r ⌝ }
+    ghost { Tables }
+    requires { λ K. ⌜ tables a b plists rlists ranks ≡ K ⌝ }
+    requires { λ K. ⌜ Sound K ⌝ }
+    requires { λ _. ⌜ Sized a b (now p) (now t) ⌝ }
+    requires { λ K. ⌜ Within (market K) (vec (now p)) ⌝ }
+    ensures { λ K r. ⌜ Settles (market K) (vec₀ p) (vec₁ p) (vec₁ t) r ⌝ }
 {
-    clear(b, rlens, t);
-    visit_all(a, b, plens, plists, ranks, p, t);
-    settle_all(a, b, plens, plists, rlens, rlists, ranks, p, t);
-    whole(a, b, plens, plists, rlens, rlists, p, t)
+    clear(a, b, rlists, t);
+    visit_all(a, b, plists, ranks, p, t);
+    settle_all(a, b, plists, rlists, ranks, p, t);
+    whole(a, b, plists, rlists, p, t)
 }

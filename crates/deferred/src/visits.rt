@@ -1,23 +1,25 @@
 // The best rank of the proposers who reach each receiver.
-use proposals::entry;
-use proposals::wide;
+use tables::entry;
+use tables::list_at;
+use tables::list_len;
+use tables::wide;
 ghost use mathlib.Core.Path.{_≡_};
 ghost use Prim.Native.Nat.{ℕ, _+_, _*_, _≤_, _<_, min};
 ghost use lib.ListN.{length};
+ghost use Rattle.laws.specs.Moment.{now₀, now₁, vec₀, vec₁};
 ghost use Rattle.laws.specs.Table.{cell};
-ghost use Rattle.laws.specs.Values.{vec};
-ghost use Rattle.proposals.specs.Lists.{Stored, Sized};
+ghost use Rattle.tables.specs.Lists.{lenIn, Stored, Sized};
 ghost use Rattle.proposals.specs.Best.{Lowered};
 ghost use Rattle.deferred.specs.Passes.{Passes};
 
 // Sets each best rank to the end of the receiver's list: nobody has come.
-pub(crate) fn clear(b: usize, rlens: &[u16], t: &mut [u16])
-    requires { ⌜ (b ≤ length (now rlens)) × (length (now t) ≡ b) ⌝ }
-    ensures { λ _. ⌜ ((w : ℕ) → w < b → vec (now (t .exit)) w ≡ vec (now (rlens .entry)) w) ⌝ }
+pub(crate) fn clear(a: usize, b: usize, rlists: &[u16], t: &mut [u16])
+    requires { ⌜ Stored b a (now rlists) × (length (now t) ≡ b) ⌝ }
+    ensures { λ _. ⌜ ((w : ℕ) → w < b → vec₁ t w ≡ lenIn b a (now₀ rlists) w) ⌝ }
 {
     let mut w = 0;
     while w < b {
-        t[w] = rlens[w];
+        t[w] = list_len(rlists, b, a, w) as u16;
         w += 1;
     }
 }
@@ -25,7 +27,7 @@ pub(crate) fn clear(b: usize, rlens: &[u16], t: &mut [u16])
 // Proposer i visits receiver w.
 fn visit(a: usize, ranks: &[u16], t: &mut [u16], i: usize, w: usize)
     requires { ⌜ (w * a + i < length (now ranks)) × (w < length (now t)) ⌝ }
-    ensures { λ _. ⌜ Lowered w (cell (now (ranks .entry)) a w i) (vec (now (t .entry))) (vec (now (t .exit))) ⌝ }
+    ensures { λ _. ⌜ Lowered w (cell (now₀ ranks) a w i) (vec₀ t) (vec₁ t) ⌝ }
 {
     let r = entry(ranks, a, w, i);
     if r < wide(t[w]) {
@@ -42,49 +44,32 @@ fn upto(len: usize, place: usize) -> usize
 }
 
 // Proposer i visits each receiver whom he reaches.
-fn visit_row(
-    a: usize,
-    b: usize,
-    plens: &[u16],
-    plists: &[u16],
-    ranks: &[u16],
-    p: &[u16],
-    t: &mut [u16],
-    i: usize,
-)
-    requires { ⌜ Stored a b (now plens) (now plists) ⌝ }
+fn visit_row(a: usize, b: usize, plists: &[u16], ranks: &[u16], p: &[u16], t: &mut [u16], i: usize)
+    requires { ⌜ Stored a b (now plists) ⌝ }
     requires { ⌜ b * a ≤ length (now ranks) ⌝ }
     requires { ⌜ Sized a b (now p) (now t) ⌝ }
     requires { ⌜ i < a ⌝ }
-    ensures { λ _. ⌜ Passes a b (now (plens .entry)) (now (plists .entry)) (now (ranks .entry)) (now (p .entry)) i 0 (i + 1) 0 (now (t .entry)) (now (t .exit)) ⌝ }
+    ensures { λ _. ⌜ Passes a b (now₀ plists) (now₀ ranks) (now₀ p) i 0 (i + 1) 0 (now₀ t) (now₁ t) ⌝ }
 {
-    let end = upto(wide(plens[i]), wide(p[i]));
+    let end = upto(list_len(plists, a, b, i), wide(p[i]));
     let mut k = 0;
     while k < end {
-        let w = entry(plists, b, i, k);
+        let w = list_at(plists, b, i, k);
         visit(a, ranks, t, i, w);
         k += 1;
     }
 }
 
 // Every proposer visits each receiver whom he reaches.
-pub(crate) fn visit_all(
-    a: usize,
-    b: usize,
-    plens: &[u16],
-    plists: &[u16],
-    ranks: &[u16],
-    p: &[u16],
-    t: &mut [u16],
-)
-    requires { ⌜ Stored a b (now plens) (now plists) ⌝ }
+pub(crate) fn visit_all(a: usize, b: usize, plists: &[u16], ranks: &[u16], p: &[u16], t: &mut [u16])
+    requires { ⌜ Stored a b (now plists) ⌝ }
     requires { ⌜ b * a ≤ length (now ranks) ⌝ }
     requires { ⌜ Sized a b (now p) (now t) ⌝ }
-    ensures { λ _. ⌜ Passes a b (now (plens .entry)) (now (plists .entry)) (now (ranks .entry)) (now (p .entry)) 0 0 a 0 (now (t .entry)) (now (t .exit)) ⌝ }
+    ensures { λ _. ⌜ Passes a b (now₀ plists) (now₀ ranks) (now₀ p) 0 0 a 0 (now₀ t) (now₁ t) ⌝ }
 {
     let mut i = 0;
     while i < a {
-        visit_row(a, b, plens, plists, ranks, p, t, i);
+        visit_row(a, b, plists, ranks, p, t, i);
         i += 1;
     }
 }

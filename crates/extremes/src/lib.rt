@@ -1,8 +1,11 @@
-// The two extreme matchings. The functions on bytes have no `requires`; those that give places work on the record of a book that is loaded already.
-mod extreme;
+// The two extreme matchings, document 01's student-best and mentor-best. `man_optimal` and `woman_optimal` take a
+// book and have no `requires`; the other functions work on lent tables.
+mod matching_bytes;
+mod optimal;
+mod written;
 
-pub use extreme::man_optimal;
-pub use extreme::man_optimal_places;
-pub use extreme::woman_optimal;
-pub use extreme::woman_optimal_places;
-pub use extreme::write_matching;
+pub use matching_bytes::write_matching;
+pub use optimal::man_optimal_places;
+pub use optimal::woman_optimal_places;
+pub use written::man_optimal;
+pub use written::woman_optimal;

@@ -12,12 +12,12 @@ use Rattle.format.specs.Format.{largest, byte, people, offset, listLengt
 use Rattle.format.specs.Lists.{checkLists}
 
 -- Directory pair k is as document 01 has it: the list starts where it is due and has n entries
-abbrev pub filed : List ℕ → ℕ → Bool
-filed b k = both (eqb (offset b k) (due b k)) (eqb (listLength b k) (people b))
+abbrev pub rightPair : List ℕ → ℕ → Bool
+rightPair b k = both (eqb (offset b k) (due b k)) (eqb (listLength b k) (people b))
 
 -- The first directory pair that is not, or 2 × n
-unfoldable pub firstMisfiled : List ℕ → ℕ
-firstMisfiled b = first (λ k. not (filed b k)) (2 * people b)
+unfoldable pub firstWrongPair : List ℕ → ℕ
+firstWrongPair b = first (λ k. not (rightPair b k)) (2 * people b)
 
 -- The verdict on a book
 unfoldable pub checkBook : List ℕ → Verdict
@@ -27,7 +27,7 @@ checkBook b =
     (rule (ltb largest (people b)) 3 1
     (rule (ltb (length b) (size (people b))) 1 (length b)
     (rule (ltb (size (people b)) (length b)) 4 (size (people b))
-    (rule (ltb (firstMisfiled b) (2 * people b)) 5 (2 + 4 * firstMisfiled b)
+    (rule (ltb (firstWrongPair b) (2 * people b)) 5 (2 + 4 * firstWrongPair b)
     (checkLists (people b) (entry b) (listLength b) (offset b) (2 * people b)))))))
 
 -- What is known of a book once rules 1 to 4 are passed
@@ -37,9 +37,9 @@ pub record Sized (b : List ℕ) (n : ℕ) : Type 0 where
   pub long : length b ≡ size n
 
 -- and once rule 5 is passed too
-pub record Filed (b : List ℕ) (n : ℕ) : Type 0 where
+pub record RightPairs (b : List ℕ) (n : ℕ) : Type 0 where
   pub sized : Sized b n
-  pub filed : firstMisfiled b ≡ 2 * n
+  pub pairs : firstWrongPair b ≡ 2 * n
 
 -- What is known of list k then: it and its directory pair lie within the book
 pub record Listed (b : List ℕ) (k : ℕ) : Type 0 where

@@ -1,6 +1,8 @@
--- The book of document 01, byte by byte. Assumes nothing.
-use Prim.Native.Nat.{ℕ, zero, suc, _+_, _*_}
-use mathlib.Core.List.{List}
+-- The book of document 01, byte by byte, and the rows of entries and of marks that go with it. Only this crate and
+-- `book`, `writer` and `record` open these definitions, and `worked`, which computes them; elsewhere stand the names
+-- and their laws (Laws.Rows). Assumes nothing.
+use Prim.Native.Nat.{ℕ, zero, suc, _+_, _*_, _<_}
+use mathlib.Core.List.{List, [], _∷_}
 use lib.ListN.{getD, take, drop}
 
 -- The largest n
@@ -11,15 +13,20 @@ largest = 64
 abbrev pub byte : List ℕ → ℕ → ℕ
 byte b k = getD b k 0
 
+-- Every element is a byte
+abbrev pub Bytes : List ℕ → Type 0
+Bytes b = (k : ℕ) → byte b k < 256
+
 -- Two bytes from k on, low byte first
 abbrev pub word : List ℕ → ℕ → ℕ
 word b k = byte b k + 256 * byte b (k + 1)
 
 -- n: how many students there are, and mentors
-abbrev pub people : List ℕ → ℕ
+unfoldable pub people : List ℕ → ℕ
 people b = byte b 1
 
--- The directory pair of list k, its offset and its length. The students' lists are 0 to n − 1, the mentors' n to 2 × n − 1
+-- The directory pair of list k, its offset and its length. The students' lists are 0 to n − 1, the mentors' n to
+-- 2 × n − 1
 unfoldable pub offset : List ℕ → ℕ → ℕ
 offset b k = word b (2 + 4 * k)
 
@@ -42,6 +49,18 @@ entry b k j = byte b (offset b k + j)
 -- List k as a stretch of the book, from its directory offset
 abbrev pub stretch : List ℕ → ℕ → List ℕ
 stretch b k = take (listLength b k) (drop (offset b k) b)
+
+-- Entry i of a row of entries, as a matching and a request are: one byte an entry
+unfoldable pub entryIn : List ℕ → ℕ → ℕ
+entryIn row i = byte row i
+
+-- A row of two entries
+unfoldable pub pairRow : ℕ → ℕ → List ℕ
+pairRow x y = x ∷ y ∷ []
+
+-- Mark k of a set of rotations: one byte a mark
+unfoldable pub markIn : List ℕ → ℕ → ℕ
+markIn set k = byte set k
 
 -- How many bytes a book of n students and n mentors has
 unfoldable pub size : ℕ → ℕ

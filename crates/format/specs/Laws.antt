@@ -1,7 +1,15 @@
--- What the proofs cite: bounds, the stages of the check, the directory, the two sides, the bytes written. Assumes nothing.
+-- What the proofs cite: chains of rules, outcomes, bounds, rows, faulty lists, numbers of refusals, the stages of the
+-- check, the directory, one person's list, the two sides, the bytes written. Assumes nothing.
+pub mod Verdict
+pub mod Outcome
 pub mod Bounds
+pub mod Rows
+pub mod Faults
+pub mod Numbers
 pub mod Holds
 pub mod Stages
 pub mod Directory
+pub mod Person
 pub mod Sides
 pub mod Written
+pub mod ListBytes

@@ -1,10 +1,10 @@
--- The format of an instance, document 01's book: the definitions in the order of document 01 and what they mean. Laws has what the proofs of the
--- crates above cite. Assumes nothing.
+-- The format of an instance, document 01's book: the definitions in the order of document 01 and what they mean. Laws
+-- has what the proofs of the crates above cite. Assumes nothing.
 pub mod Verdict
+pub mod Outcome
 pub mod Format
 pub mod Sizes
 pub mod Lists
-pub mod Faults
 pub mod Check
 pub mod WellFormed
 pub mod Write

@@ -22,7 +22,8 @@ faulty n l j = either (stranger n l j) (repeat l j)
 unfoldable pub firstFaulty : ℕ → (ℕ → ℕ) → ℕ → ℕ
 firstFaulty n l len = first (faulty n l) len
 
--- Rules 6 and 7 over one list whose entries stand one a byte from place `at` on: its first faulty entry is refused, 6 before 7
+-- Rules 6 and 7 over one list whose entries stand one a byte from place `at` on: its first faulty entry is refused, 6
+-- before 7
 unfoldable pub checkList : ℕ → (ℕ → ℕ) → ℕ → ℕ → Verdict
 checkList n l len at =
     let j = firstFaulty n l len in
@@ -36,7 +37,8 @@ faultyList n e len k = ltb (firstFaulty n (e k) (len k)) (len k)
 unfoldable pub firstFaultyList : ℕ → (ℕ → ℕ → ℕ) → (ℕ → ℕ) → ℕ → ℕ
 firstFaultyList n e len lists = first (faultyList n e len) lists
 
--- Rules 6 and 7 over lists whose entries stand one a byte from start k on: list by list and place by place, 6 before 7 at one entry
+-- Rules 6 and 7 over lists whose entries stand one a byte from start k on: list by list and place by place, 6 before 7
+-- at one entry
 unfoldable pub checkLists : ℕ → (ℕ → ℕ → ℕ) → (ℕ → ℕ) → (ℕ → ℕ) → ℕ → Verdict
 checkLists n e len start lists =
     let k = firstFaultyList n e len lists in

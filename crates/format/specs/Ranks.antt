@@ -3,7 +3,6 @@ use Prim.Native.Nat.{ℕ, _+_, _<_, _≤_}
 use mathlib.Core.Path.{_≡_, refl, sym, _∙_, ap, subst}
 use mathlib.Core.List.{List}
 use native.Mathlib.Omega.{arith}
-use lib.ListN.{getD}
 use Rattle.laws.specs.Table.{cell}
 use Rattle.format.specs.Verdict.{Verdict, fine, refused}
 use Rattle.format.specs.Format.{people, entry}
@@ -28,24 +27,24 @@ recorded-source b = by-verdict (checkBook b) refl
 pub number-source : {b : List ℕ} {n : ℕ} → n ≡ numberIf (checkBook b) (people b) → Source b n
 number-source {b} e = subst (λ (m : ℕ). Source b m) (sym e) (recorded-source b)
 
-module _ {b lengths lists ranks : List ℕ} {n from : ℕ} (F : Source b n) (h : from ≤ n) (S : SideTables b n from lengths lists ranks) {i : ℕ} (u : i < n) where
+module _ {b lists ranks : List ℕ} {n from : ℕ} (F : Source b n) (h : from ≤ n) (S : SideTables b n from n lists ranks) {i : ℕ} (u : i < n) where
   full : FullList b n (from + i)
   full = side-list F h u
 
   -- every list has n entries
-  pub length-full : getD lengths i 0 ≡ n
-  length-full = S .lengths-done .at u ∙ full .long
+  pub length-full : cell lists n n i ≡ n
+  length-full = S .lengths u ∙ full .long
 
   -- entries and ranks are below n
   pub list-lt : {j : ℕ} → j < n → cell lists n i j < n
-  list-lt v = omega (arith, S .lists-done .filled .cells u v, full .names .below v)
+  list-lt v = omega (arith, S .entries u v, full .names .below v)
 
   pub rank-lt : {w : ℕ} → w < n → cell ranks n i w < n
-  rank-lt v = omega (arith, S .ranks-done .filled .cells u v, full .place-small v)
+  rank-lt v = omega (arith, S .ranks-done .cells u v, full .place-small v)
 
   -- the rank of entry j is j, and at the rank of w stands w
   pub rank-of-list : {j : ℕ} → j < n → cell ranks n i (cell lists n i j) ≡ j
-  rank-of-list v = S .ranks-done .filled .cells u (list-lt v) ∙ ap (place b (from + i)) (S .lists-done .filled .cells u v) ∙ full .place-back v
+  rank-of-list v = S .ranks-done .cells u (list-lt v) ∙ ap (place b (from + i)) (S .entries u v) ∙ full .place-back v
 
   pub list-of-rank : {w : ℕ} → w < n → cell lists n i (cell ranks n i w) ≡ w
-  list-of-rank v = S .lists-done .filled .cells u (rank-lt v) ∙ ap (entry b (from + i)) (S .ranks-done .filled .cells u v) ∙ full .at-place v
+  list-of-rank v = S .entries u (rank-lt v) ∙ ap (entry b (from + i)) (S .ranks-done .cells u v) ∙ full .at-place v

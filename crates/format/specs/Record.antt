@@ -2,71 +2,81 @@
 use Prim.Native.Nat.{ℕ, _+_, _*_, _≤_, _<_}
 use mathlib.Core.Path.{_≡_}
 use mathlib.Core.List.{List}
-use lib.ListN.{length, getD}
+use lib.ListN.{length, getD, replicate}
+use denote.Ref.{RefT}
 use Rattle.laws.specs.Onto.{Into}
-use Rattle.laws.specs.Table.{Filled}
+use Rattle.laws.specs.Table.{cell, Filled}
 use Rattle.format.specs.declared.record.Instance.{Instance}
-use Rattle.format.specs.declared.record.Loaded.{Loaded}
 use Rattle.format.specs.Verdict.{Verdict, fine, refused, verdictOf}
 use Rattle.format.specs.Format.{largest, byte, people, listLength, entry}
 use Rattle.format.specs.Check.{checkBook}
 use Rattle.format.specs.WellFormed.{WellFormed}
 use Rattle.format.specs.Place.{place}
 
--- The lengths of the lists of one side, which are those from number `from` on, with `rows` of the persons done, and zeros past them
-pub record Lengths (b : List ℕ) (from rows : ℕ) (lengths : List ℕ) : Type 0 where
-  pub at : {i : ℕ} → i < rows → getD lengths i 0 ≡ listLength b (from + i)
-  pub past : {p : ℕ} → rows ≤ p → getD lengths p 0 ≡ 0
-  pub long : length lengths ≡ largest
+-- How many cells a table of lists and a table of ranks have
+abbrev pub listCells : ℕ
+listCells = largest * (largest + 1)
 
--- A table of one side with `rows` of its rows of n cells done: cell j of row i is what f gives for list from + i and j. It has room for the
--- largest n
-pub record Rows (n : ℕ) (f : ℕ → ℕ → ℕ) (from rows : ℕ) (table : List ℕ) : Type 0 where
-  pub filled : Filled rows n (λ i j. f (from + i) j) table
-  pub long : length table ≡ largest * largest
+abbrev pub rankCells : ℕ
+rankCells = largest * largest
 
--- The tables of one side of n persons: how long each list is, entry j of list i, and the place of w on it
-pub record SideTables (b : List ℕ) (n from : ℕ) (lengths lists ranks : List ℕ) : Type 0 where
-  pub lengths-done : Lengths b from n lengths
-  pub lists-done : Rows n (entry b) from n lists
-  pub ranks-done : Rows n (place b) from n ranks
+-- The tables of one side of n persons with the first `rows` of them done, whose lists are those from number `from`
+-- on: the entries of each list in a row, after the n rows how long each is, and the place of w on it in a row of the
+-- ranks. Past them all is 0
+pub record SideTables (b : List ℕ) (n from rows : ℕ) (lists ranks : List ℕ) : Type 0 where
+  pub entries : {i j : ℕ} → i < rows → j < n → cell lists n i j ≡ entry b (from + i) j
+  pub lengths : {i : ℕ} → i < rows → cell lists n n i ≡ listLength b (from + i)
+  pub lists-past : {p : ℕ} → n * n + n ≤ p → getD lists p 0 ≡ 0
+  pub ranks-done : Filled rows n (λ i w. place b (from + i) w) ranks
+  pub lists-long : length lists ≡ listCells
+  pub ranks-long : length ranks ≡ rankCells
 
--- The record of n men and n women with these tables, as functions speak of it that are lent the tables
-abbrev pub recordOf : ℕ → (mlens mlists mranks wlens wlists wranks : List ℕ) → Instance
-recordOf n mlens mlists mranks wlens wlists wranks =
-    record {
-      n = n;
-      «man_lengths» = mlens;
-      «man_lists» = mlists;
-      «man_ranks» = mranks;
-      «woman_lengths» = wlens;
-      «woman_lists» = wlists;
-      «woman_ranks» = wranks;
-    }
+-- The tables of n men and n women, as one value
+pub record Record : Type 0 where
+  pub n : ℕ
+  pub mlists : List ℕ
+  pub mranks : List ℕ
+  pub wlists : List ℕ
+  pub wranks : List ℕ
+
+abbrev pub recordOf : ℕ → (mlists mranks wlists wranks : List ℕ) → Record
+recordOf n mlists mranks wlists wranks = record { n = n; mlists = mlists; mranks = mranks; wlists = wlists; wranks = wranks }
+
+-- The same of lent tables
+abbrev pub lent : ℕ → (mlists mranks wlists wranks : RefT (List ℕ)) → Record
+lent n mlists mranks wlists wranks = recordOf n (mlists .now) (mranks .now) (wlists .now) (wranks .now)
 
 -- A number where nothing is refused, and 0 otherwise
 abbrev pub numberIf : Verdict → ℕ → ℕ
 numberIf fine n = n
 numberIf (refused number place second) n = 0
 
--- The record of n men and n women: the men's lists are those from number 0 on, the women's those from n on
-pub record Tables (b : List ℕ) (n : ℕ) (r : Instance) : Type 0 where
+-- The tables are those of n men and n women: the men's lists are those from number 0 on, the women's those from n on
+pub record RecordIs (b : List ℕ) (n : ℕ) (r : Record) : Type 0 where
   pub number : r .n ≡ n
-  pub men : SideTables b n 0 (r .«man_lengths») (r .«man_lists») (r .«man_ranks»)
-  pub women : SideTables b n n (r .«woman_lengths») (r .«woman_lists») (r .«woman_ranks»)
+  pub men : SideTables b n 0 n (r .mlists) (r .mranks)
+  pub women : SideTables b n n n (r .wlists) (r .wranks)
 
--- What is made of a book: the check's answer, and the record; on a refusal n is 0 in it, so that all entries are
-pub record Recorded (b : List ℕ) (r : Loaded) : Type 0 where
-  pub checked : verdictOf (r .checked) ≡ checkBook b
-  pub tables : Tables b (numberIf (checkBook b) (people b)) (r .instance)
+-- What is made of a book: the check's answer, n, and the tables; on a refusal n is 0, so that all entries are
+pub record Recorded (b : List ℕ) (i : Instance) (r : Record) : Type 0 where
+  pub checked : verdictOf (i .checked) ≡ checkBook b
+  pub tables : RecordIs b (numberIf (checkBook b) (people b)) r
+  pub number : i .n ≡ r .n
 
--- What the functions that fill one row of a table need: entries of the list l that are different numbers below its length, and room from
--- index `at` on
-pub record Row (l : List ℕ) (at : ℕ) (table : List ℕ) : Type 0 where
+-- What the function that makes it needs: tables of zeros
+pub record Cleared (lists ranks : List ℕ) : Type 0 where
+  pub lists-cleared : lists ≡ replicate listCells 0
+  pub ranks-cleared : ranks ≡ replicate rankCells 0
+
+-- What the function that fills one row of both tables needs: entries of the list l that are different numbers below its
+-- length, and room in the two tables from index `at` on
+pub record Row (l : List ℕ) (at : ℕ) (lists ranks : List ℕ) : Type 0 where
   pub names : Into (length l) (length l) (byte l)
   pub few : length l ≤ largest
-  pub room : at + length l ≤ largest * largest
-  pub long : length table ≡ largest * largest
+  pub room : at + length l ≤ length lists
+  pub rank-room : at + length l ≤ length ranks
+  pub lists-small : length lists ≤ listCells
+  pub ranks-small : length ranks ≤ rankCells
 
 -- What the functions that fill the tables need of a book: it is well formed, of n men and n women, or n is 0
 pub record Source (b : List ℕ) (n : ℕ) : Type 0 where

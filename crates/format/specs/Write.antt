@@ -4,9 +4,14 @@ use mathlib.Core.Path.{_≡_}
 use mathlib.Core.List.{List, [], _∷_, _++_}
 use lib.ListN.{length, take, drop}
 use lib.Dec.{ltb}
-use Rattle.format.specs.Verdict.{Verdict, fine, refused, rule, andThen}
-use Rattle.format.specs.Format.{largest, byte, listsStart, size}
+use Rattle.format.specs.Verdict.{Verdict, fine, rule, andThen}
+use Rattle.format.specs.Outcome.{checkRoom, filled}
+use Rattle.format.specs.Format.{largest, byte, people, listsStart, size}
 use Rattle.format.specs.Lists.{checkLists}
+
+-- The verdict on a number of students: rule 3
+unfoldable pub checkSize : ℕ → Verdict
+checkSize n = rule (ltb largest n) 3 1 fine
 
 -- Entry j of list k, of n entries each, end to end
 unfoldable pub given : ℕ → List ℕ → ℕ → ℕ → ℕ
@@ -26,10 +31,10 @@ checkWrite n l room =
     rule (ltb largest n) 3 1
     (rule (ltb (length l) (2 * (n * n))) 1 (length l)
     (rule (ltb (2 * (n * n)) (length l)) 4 (2 * (n * n))
-    (andThen (checkGiven n l) (rule (ltb room (size n)) 14 0 fine))))
+    (andThen (checkGiven n l) (checkRoom (size n) room))))
 
 -- What is known of n and the list bytes once rules 3, 1 and 4 are passed
-pub record Counted (n : ℕ) (l : List ℕ) : Type 0 where
+pub record SizedLists (n : ℕ) (l : List ℕ) : Type 0 where
   pub few : n ≤ largest
   pub long : length l ≡ 2 * (n * n)
 
@@ -50,7 +55,10 @@ directory n (suc k) = directory n k ++ pairBytes (listsStart n + k * n) n
 unfoldable pub bookOf : ℕ → List ℕ → List ℕ
 bookOf n l = 1 ∷ n ∷ (directory n (2 * n) ++ l)
 
+-- The list bytes of a book
+abbrev pub listBytes : List ℕ → List ℕ
+listBytes b = drop (listsStart (people b)) b
+
 -- What the buffer holds afterwards: on a refusal what it held, else the book, and past it what it held
 abbrev pub written : Verdict → ℕ → List ℕ → List ℕ → List ℕ
-written fine n l out = bookOf n l ++ drop (size n) out
-written (refused number place second) n l out = out
+written v n l out = filled v (size n) (bookOf n l) out

@@ -1,27 +1,20 @@
-// The record of an instance: n, and for each side the lengths of the lists, the lists, and the places on them.
+// The record of an instance, whose tables are lent.
 use crate::verdict::Checked;
 
-// A row of a table has n cells. Person i has row i: at cell j of `lists` stands entry j of the list, at cell w of `ranks`
-// the place of w on it.
+// What is made of a book: the answer of its check, and n, 0 on a refusal. The tables are lent to the function that
+// makes it, two for each side. Person i has row i of a table, of n cells: in a table of lists the entries of his
+// list, in a table of ranks at cell w the place of w on it. After its n rows a table of lists has a cell for the
+// length of each list. On a refusal the tables hold zeros alone.
 pub struct Instance {
-    pub n: usize,
-    pub man_lengths: [u16; Instance::LARGEST],
-    pub man_lists: [u16; Instance::CELLS],
-    pub man_ranks: [u16; Instance::CELLS],
-    pub woman_lengths: [u16; Instance::LARGEST],
-    pub woman_lists: [u16; Instance::CELLS],
-    pub woman_ranks: [u16; Instance::CELLS],
-}
-
-// What is made of a book: the answer of the check, and the record, with n = 0 and zeros alone on a refusal.
-pub struct Loaded {
     pub checked: Checked,
-    pub instance: Instance,
+    pub n: usize,
 }
 
 impl Instance {
-    // The largest n, and how many cells a table has.
+    // The largest n, and how many cells a table of lists and a table of ranks have.
     pub const LARGEST: usize = 64;
 
-    pub const CELLS: usize = Instance::LARGEST * Instance::LARGEST;
+    pub const LISTS: usize = Instance::LARGEST * (Instance::LARGEST + 1);
+
+    pub const RANKS: usize = Instance::LARGEST * Instance::LARGEST;
 }

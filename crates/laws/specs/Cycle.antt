@@ -1,4 +1,5 @@
--- The cycles of a function on numbers: what it comes to when it is applied again and again, and where it returns. Assumes nothing.
+-- The cycles of a function on numbers: what it comes to when it is applied again and again, and where it returns.
+-- Assumes nothing.
 use Prim.Native.Nat.{ℕ, zero, suc, pred, _+_, _-_, _≤_, _<_}
 use mathlib.Core.Path.{_≡_, sym, _∙_, ap}
 use mathlib.Core.Bool.{Bool, true}

@@ -1,6 +1,7 @@
--- Marks: a list of 0 and 1, one for each value, that says which values the first j entries of another list have. Assumes nothing.
+-- Marks: a list of 0 and 1, one for each value, that says which values the first j entries of another list have.
+-- Assumes nothing.
 use Prim.Native.Nat.{ℕ, _+_, _<_}
-use mathlib.Core.Path.{_≡_, refl, sym, _∙_, ap}
+use mathlib.Core.Path.{_≡_, sym, _∙_, ap}
 use mathlib.Core.Bool.{Bool, true, false}
 use mathlib.Core.List.{List}
 use native.Mathlib.Omega.{arith}
@@ -9,7 +10,7 @@ use lib.Dec.{eqb}
 use lib.ListN.{length, getD, set, replicate, length-set, length-replicate, getD-replicate}
 use lib.Seq.{getD-set-same, getD-set-other}
 use Rattle.laws.specs.Choice.{pick, either, either-true, either-false, same, tested}
-use Rattle.laws.specs.First.{some, some-more, clash}
+use Rattle.laws.specs.First.{some, some-more}
 
 -- one of the first j entries of l is v
 abbrev pub among : (ℕ → ℕ) → ℕ → ℕ → Bool

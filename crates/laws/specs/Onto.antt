@@ -1,5 +1,5 @@
--- Maps into the numbers below a bound that are one to one: n different numbers below n are all of them (Pigeon), so that a search finds each.
--- Assumes nothing.
+-- Maps into the numbers below a bound that are one to one: n different numbers below n are all of them (Pigeon), so
+-- that a search finds each. Assumes nothing.
 use Prim.Native.Nat.{ℕ, _<_}
 use mathlib.Core.Path.{_≡_, sym, _∙_, ap}
 use mathlib.Core.Bool.{true}

@@ -1,12 +1,11 @@
--- A list of at most m numbers with zeros after it, m elements in all: what a list of m zeros is after its front was replaced.
--- Assumes nothing.
+-- A list of at most m numbers with zeros after it, m elements in all: what a list of m zeros is after its front was
+-- replaced. Assumes nothing.
 use Prim.Native.Nat.{ℕ, _+_, _-_, _≤_, _<_}
 use mathlib.Core.Path.{_≡_, sym, _∙_, ap}
 use mathlib.Core.List.{List, _++_}
 use native.Mathlib.Omega.{arith}
-use lib.ListN.{length, getD, take, drop, replicate, length-append, length-drop, length-replicate, List·getD-append}
+use lib.ListN.{length, take, drop, replicate, length-append, length-drop, length-replicate, List·getD-append}
 use lib.Seq.{length-take-le, getD-take, getD-append-add, getD-drop}
-use Rattle.laws.specs.Choice.{split}
 use Rattle.laws.specs.Table.{zeros-read}
 use Rattle.laws.specs.Values.{vec}
 

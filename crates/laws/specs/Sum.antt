@@ -1,6 +1,6 @@
 -- Sums and counts over the numbers below a bound. Assumes nothing.
-use Prim.Native.Nat.{ℕ, zero, suc, _+_, _≤_, _<_}
-use mathlib.Core.Bool.{Bool, true, false}
+use Prim.Native.Nat.{ℕ, zero, suc, _+_}
+use mathlib.Core.Bool.{Bool}
 use Rattle.laws.specs.Choice.{pick}
 
 -- f 0 + … + f (n - 1)

@@ -24,13 +24,17 @@ sum-tight (suc n) f g h le i u =
     let b = h n (omega arith) in
     same i n (λ e. rw e (omega arith)) (λ ne. sum-tight n f g (λ j v. h j (omega arith)) (omega arith) i (omega arith))
 
--- one term grows by c, the others stay: the sum grows by c
-pub sum-grown : (n : ℕ) (f g : ℕ → ℕ) (i c : ℕ) → i < n → g i ≡ f i + c → ((l : ℕ) → (l ≡ i → ⊥) → g l ≡ f l) → sum n g ≡ sum n f + c
-sum-grown zero f g i c u e o = absurd (omega arith)
-sum-grown (suc n) f g i c u e o =
+-- one term grows by c, the others below n stay: the sum grows by c
+pub sum-grown-below : (n : ℕ) (f g : ℕ → ℕ) (i c : ℕ) → i < n → g i ≡ f i + c → ((l : ℕ) → l < n → (l ≡ i → ⊥) → g l ≡ f l) → sum n g ≡ sum n f + c
+sum-grown-below zero f g i c u e o = absurd (omega arith)
+sum-grown-below (suc n) f g i c u e o =
     same n i
-    (λ q. let a : g n ≡ f n + c = rw q e in omega (arith, sum-same n g f (λ l v. o l (omega arith))))
-    (λ q. omega (arith, sum-grown n f g i c (omega arith) e o, o n q))
+    (λ q. let a : g n ≡ f n + c = rw q e in omega (arith, sum-same n g f (λ l v. o l (omega arith) (omega arith))))
+    (λ q. omega (arith, sum-grown-below n f g i c (omega arith) e (λ l v. o l (omega arith)), o n (omega arith) q))
+
+-- and so where all others stay
+pub sum-grown : (n : ℕ) (f g : ℕ → ℕ) (i c : ℕ) → i < n → g i ≡ f i + c → ((l : ℕ) → (l ≡ i → ⊥) → g l ≡ f l) → sum n g ≡ sum n f + c
+sum-grown n f g i c u e o = sum-grown-below n f g i c u e (λ l v. o l)
 
 -- a sum over the numbers that pass a test grows with the numbers that pass
 pub sum-passed : (n : ℕ) (p q : ℕ → Bool) (c : ℕ → ℕ) → ((i : ℕ) → i < n → p i ≡ true → q i ≡ true) → sum n (λ i. pick (p i) (c i) 0) ≤ sum n (λ i. pick (q i) (c i) 0)

@@ -1,5 +1,6 @@
--- A search for the lowest number on a cycle: walks along a function from 0, 1, 2, … on, each of which marks what it meets with a
--- mark of its own and stops at a mark. A walk that stops at its own mark has gone round a cycle. Assumes nothing.
+-- A search for the lowest number on a cycle: walks along a function from 0, 1, 2, … on, each of which marks what it
+-- meets with a mark of its own and stops at a mark. A walk that stops at its own mark has gone round a cycle. Assumes
+-- nothing.
 use Prim.Native.Nat.{ℕ, suc, pred, _+_, _-_, _≤_, _<_}
 use mathlib.Core.Path.{_≡_, refl, sym, _∙_, ap}
 use mathlib.Core.Bool.{true}
@@ -10,7 +11,7 @@ use lib.ListN.{length, set, length-set}
 use lib.Seq.{getD-set-same, getD-set-other}
 use borrow.Author.Tests.{eq-eqb, ne-eqb}
 use Rattle.laws.specs.Choice.{pick, split, same, tested}
-use Rattle.laws.specs.First.{first, clash, some-true, scan-hit, scan-end}
+use Rattle.laws.specs.First.{first, some-true, scan-hit, scan-end}
 use Rattle.laws.specs.Sum.{count}
 use Rattle.laws.specs.SumLaws.{sum-le, sum-grown}
 use Rattle.laws.specs.Rising.{sum-const}
@@ -22,7 +23,8 @@ use Rattle.laws.specs.Covered.{Covered, covered-less, covered-on, covere
 abbrev pub unmarked : ℕ → List ℕ → ℕ
 unmarked n marks = count n (λ v. eqb (vec marks v) 0)
 
--- A walk from x on that is at y: it came there by steps of f, what it met bears its mark, and other marks are as they were
+-- A walk from x on that is at y: it came there by steps of f, what it met bears its mark, and other marks are as they
+-- were
 pub record Walk (f : ℕ → ℕ) (n x mark : ℕ) (before marks : List ℕ) (y : ℕ) : Type 0 where
   pub long : length marks ≡ length before
   pub steps : ℕ
@@ -77,8 +79,8 @@ module _ {f : ℕ → ℕ} {n x mark : ℕ} {before : List ℕ} where
         some-true (backAfter f y) {k = n} {i = c} (omega (arith, W .few, unmarked-le n before))
         (eq-eqb (iter f (suc c) y) y (ap (iter f (suc c)) (sym b) ∙ (sym (iter-add f (suc c) k x) ∙ (ap (λ (j : ℕ). iter f j x) q ∙ W .here))))
 
--- What the search knows when the walks from all numbers below x are done: `low` bounds the cycles to which these numbers and all
--- that are marked lead, and is n or on a cycle
+-- What the search knows when the walks from all numbers below x are done: `low` bounds the cycles to which these
+-- numbers and all that are marked lead, and is n or on a cycle
 pub record Sought (f : ℕ → ℕ) (n x low : ℕ) (marks : List ℕ) : Type 0 where
   pub long : length marks ≡ n
   pub passed : (v : ℕ) → v < x → Covered f n low v

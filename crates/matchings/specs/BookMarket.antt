@@ -1,6 +1,7 @@
--- The market of a book, in which the students propose: a well formed book's market is well formed and complete. Assumes nothing.
+-- The market of a book, in which the students propose: a well formed book's market is well formed and complete.
+-- Assumes nothing.
 use Prim.Native.Nat.{ℕ, _+_, _*_, _≤_, _<_}
-use mathlib.Core.Path.{_≡_, refl, sym, _∙_, subst}
+use mathlib.Core.Path.{refl}
 use mathlib.Core.List.{List}
 use native.Mathlib.Omega.{arith}
 use Rattle.format.specs.Format.{people, listLength, entry}

@@ -1,10 +1,10 @@
 -- The two extreme matchings, document 01's student-best and mentor-best, as bytes. Assumes nothing.
 use Prim.Native.Nat.{ℕ}
-use mathlib.Core.List.{List, _++_}
-use lib.ListN.{drop}
-use lib.Dec.{ltb}
+use mathlib.Core.List.{List}
+use lib.ListN.{length}
 use Rattle.laws.specs.Values.{values}
-use Rattle.format.specs.Verdict.{Verdict, fine, refused, rule, andThen}
+use Rattle.format.specs.Verdict.{Verdict, andThen}
+use Rattle.format.specs.Outcome.{checkRoom, filled}
 use Rattle.format.specs.Format.{people}
 use Rattle.format.specs.Check.{checkBook}
 use Rattle.stable_theory.specs.Matchings.Matching.{partners}
@@ -23,11 +23,10 @@ manOptimal b = matchingOf b (proposer-optimal (market b))
 unfoldable pub womanOptimal : List ℕ → List ℕ
 womanOptimal b = matchingOf b (receiver-optimal (market b))
 
--- The verdict where the result is n entries for a buffer of so many: the book, 14
-abbrev pub checkRoom : List ℕ → ℕ → Verdict
-checkRoom b room = andThen (checkBook b) (rule (ltb room (people b)) 14 0 fine)
+-- The verdict where a matching goes to a buffer of so many entries: the book, 14
+abbrev pub checkExtreme : List ℕ → ℕ → Verdict
+checkExtreme b room = andThen (checkBook b) (checkRoom (people b) room)
 
--- What a result buffer holds afterwards: on a refusal what it held, else the n entries of the result, and past them what it held
-abbrev pub filled : Verdict → ℕ → List ℕ → List ℕ → List ℕ
-filled fine n result out = result ++ drop n out
-filled (refused number place second) n result out = out
+-- What the buffer holds afterwards
+abbrev pub extremeBuffer : List ℕ → List ℕ → List ℕ → List ℕ
+extremeBuffer b matching out = filled (checkExtreme b (length out)) (people b) matching out

@@ -1,8 +1,6 @@
--- Matchings in the words of document 01, and what the definitions mean. Assumes nothing.
+-- Matchings in the words of document 01, and the first half of demand 2. Laws proves it. Assumes nothing.
 pub mod BookMarket
 pub mod Matching
 pub mod Extreme
-pub mod Numbers
-pub mod StableCheck
-pub mod StableVector
-pub mod ExtremeLaws
+pub mod Demand2
+pub mod Laws

@@ -1,7 +1,7 @@
 // Matchings of a book: what has to be believed of them. The types that definitions cite stand here, and no function.
 //
-// specs/ has document 01's definitions (Matching, Extreme) and what they mean: the check says stable exactly when no pair blocks (StableCheck), the
-// stable matchings are the stable vectors of the theory (StableVector), and the two extremes are those of the theory (ExtremeLaws).
+// specs/ has document 01's definitions (Matching, Extreme), and Demand2 says what follows for the first half of demand
+// 2: the check says stable exactly when no pair blocks, and the two extremes are those of the theory.
 mod places;
 
 pub use places::Judged;

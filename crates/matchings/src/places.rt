@@ -2,7 +2,8 @@
 use format::Checked;
 use format::Instance;
 
-// The two sides of a matching as places: that of each man on his list and that of each woman on hers, and zeros past n.
+// The two sides of a matching as places: that of each man on his list and that of each woman on hers, and zeros past
+// n.
 pub struct Places {
     pub men: [u16; Instance::LARGEST],
     pub women: [u16; Instance::LARGEST],

@@ -6,7 +6,8 @@ use Rattle.stable_theory.specs.Stable.Market.{Market}
 use Rattle.stable_theory.specs.Stable.Vector.{Before, Mirror}
 use Rattle.stable_theory.specs.Repairs.Repair.{Parts, IsDown}
 
--- What a push of proposer s from p gives: where it is found, v is the repair down and t its other side, and otherwise there is none
+-- What a push of proposer s from p gives: where it is found, v is the repair down and t its other side, and otherwise
+-- there is none
 pub record Tries (I : Market) (p : ℕ → ℕ) (s : ℕ) (v t : ℕ → ℕ) (found : Bool) : Type 0 where
   pub repair : found ≡ true → IsDown I p s v
   pub mirror : found ≡ true → Mirror I v t
@@ -18,7 +19,8 @@ pub record Measured (n k : ℕ) (found : Bool) (far : ℕ) : Type 0 where
   pub most : found ≡ true → far ≤ n
   pub no : found ≡ false → far ≡ n + 1
 
--- No stable vector has a place of proposer s after `end`, as far as p shows: where p has him there, no stable vector after p moves him
+-- No stable vector has a place of proposer s after `end`, as far as p shows: where p has him there, no stable vector
+-- after p moves him
 abbrev pub Last : Market → (ℕ → ℕ) → ℕ → ℕ → Type 0
 Last I p s end = p s ≡ end → (k : ℕ → ℕ) → Parts I p s k → Before I p k → ⊥
 

@@ -8,7 +8,8 @@ pub enum Letter {
     Fixed,
 }
 
-// The nearest repair of a pair: its distance, and the rank of each man's woman in it. Where there is none, 0 and the ranks that were given.
+// The nearest repair of a pair: its distance, and the rank of each man's woman in it. Where there is none, 0 and the
+// ranks that were given.
 pub struct Nearest {
     pub letter: Letter,
     pub distance: usize,

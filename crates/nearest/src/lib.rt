@@ -1,4 +1,5 @@
-// The nearest repair of a pair, over the record of a book and the places of a stable matching, so that all pairs of a matching share them.
+// The nearest repair of a pair, over the record of a book and the places of a stable matching, so that all pairs of a
+// matching share them.
 mod answer;
 mod pushes;
 

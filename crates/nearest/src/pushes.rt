@@ -1,23 +1,25 @@
-// The nearest repair of a pair, over the tables of a record and the two vectors of a stable matching.
+// The nearest repair of a pair, over lent tables and the two vectors of a stable matching.
 //
-// `men` has the rank of each man's woman on his list and `women` the rank of each woman's man on hers; entries from n on hold anything.
+// `men` has the rank of each man's woman on his list and `women` the rank of each woman's man on hers; entries from n
+// on hold anything.
 use crate::answer::Letter;
 use crate::answer::Nearest;
 use format::Instance;
-use proposals::entry;
 use proposals::push;
-use proposals::wide;
+use tables::list_at;
+use tables::wide;
 ghost use mathlib.Core.Path.{_≡_};
-ghost use Prim.Native.Nat.{_+_, _≤_, _<_};
+ghost use Prim.Native.Nat.{_≤_, _<_};
 ghost use lib.ListN.{length};
+ghost use Rattle.laws.specs.Moment.{vec₀};
 ghost use Rattle.laws.specs.Sum.{count};
 ghost use Rattle.laws.specs.Values.{vec};
-ghost use Rattle.stable_theory.specs.Repairs.Answer.{answerOf};
 ghost use Rattle.stable_theory.specs.Repairs.Repair.{moved};
-ghost use Rattle.proposals.specs.Lists.{marketOf, Tables};
+ghost use Rattle.tables.specs.Lists.{Tables, tables, market, Sound};
 ghost use Rattle.proposals.specs.Push.{Pushable};
+ghost use Rattle.format.specs.Record.{Record, lent};
 ghost use Rattle.nearest.specs.Tried.{Last, Tries, Measured};
-ghost use Rattle.nearest.specs.Nearest.{GivenEnds, Shows};
+ghost use Rattle.nearest.specs.Nearest.{GivenEnds, ShowsFor};
 
 // What a push leaves: whether it ended in a stable matching, and the two vectors.
 struct Vectors {
@@ -26,12 +28,11 @@ struct Vectors {
     receivers: [u16; Instance::LARGEST],
 }
 
-// Pushes proposer s on by one place, from copies of the two vectors, unless he stands at `end`, after which no stable matching has him.
+// Pushes proposer s on by one place, from copies of the two vectors, unless he stands at `end`, after which no stable
+// matching has him.
 fn pushed<'a>(
     n: usize,
-    plens: &'a [u16],
     plists: &'a [u16],
-    rlens: &'a [u16],
     rlists: &'a [u16],
     ranks: &'a [u16],
     p: [u16; Instance::LARGEST],
@@ -39,12 +40,11 @@ fn pushed<'a>(
     s: usize,
     end: u16,
 ) -> Vectors
-    requires { ⌜ Tables n n (now plens) (now plists) (now rlens) (now rlists) (now ranks) ⌝ }
-    requires { ⌜ n ≤ length p ⌝ }
-    requires { ⌜ Pushable (marketOf n n (now plens) (now plists) (now rlens) (now rlists)) (vec p) (vec t) s ⌝ }
-    requires { ⌜ vec p s < vec (now plens) s ⌝ }
-    requires { ⌜ Last (marketOf n n (now plens) (now plists) (now rlens) (now rlists)) (vec p) s end ⌝ }
-    ensures { λ r. ⌜ Tries (marketOf n n (now (plens .entry)) (now (plists .entry)) (now (rlens .entry)) (now (rlists .entry))) (vec p) s (vec (r .proposers)) (vec (r .receivers)) (r .found) ⌝ }
+    ghost { Tables }
+    requires { λ K. ⌜ tables n n plists rlists ranks ≡ K ⌝ }
+    requires { λ K. ⌜ Sound K × (n ≤ length p) ⌝ }
+    requires { λ K. ⌜ Pushable (market K) (vec p) (vec t) s × Last (market K) (vec p) s end ⌝ }
+    ensures { λ K r. ⌜ Tries (market K) (vec p) s (vec (r .proposers)) (vec (r .receivers)) (r .found) ⌝ }
 {
     if p[s] == end {
         return Vectors {
@@ -58,9 +58,7 @@ fn pushed<'a>(
     let found = push(
         n,
         n,
-        plens,
         plists,
-        rlens,
         rlists,
         ranks,
         &mut proposers[..n],
@@ -77,7 +75,7 @@ fn pushed<'a>(
 // How many of the first n entries differ.
 fn count_moved(n: usize, old: &[u16], new: &[u16]) -> usize
     requires { ⌜ (n ≤ length (now old)) × (n ≤ length (now new)) ⌝ }
-    ensures { λ r. ⌜ (r ≡ count n (moved (vec (now (old .entry))) (vec (now (new .entry))))) × (r ≤ n) ⌝ }
+    ensures { λ r. ⌜ (r ≡ count n (moved (vec₀ old) (vec₀ new))) × (r ≤ n) ⌝ }
 {
     let mut found = 0;
     let mut i = 0;
@@ -94,7 +92,7 @@ fn count_moved(n: usize, old: &[u16], new: &[u16]) -> usize
 fn distance(n: usize, found: bool, old: &[u16], new: &[u16]) -> usize
     requires { ⌜ (n ≤ length (now old)) × (n ≤ length (now new)) ⌝ }
     requires { ⌜ n < 65536 ⌝ }
-    ensures { λ r. ⌜ Measured n (count n (moved (vec (now (old .entry))) (vec (now (new .entry))))) found r ⌝ }
+    ensures { λ r. ⌜ Measured n (count n (moved (vec₀ old) (vec₀ new))) found r ⌝ }
 {
     if found {
         return count_moved(n, old, new);
@@ -102,13 +100,12 @@ fn distance(n: usize, found: bool, old: &[u16], new: &[u16]) -> usize
     n + 1
 }
 
-// The nearest repair of the pair of man s: down by a push of him, up by a push of his woman on the other side, up where both are as near.
+// The nearest repair of the pair of man s: down by a push of him, up by a push of his woman on the other side, up
+// where both are as near.
 pub fn nearest<'a>(
     n: usize,
-    mlens: &'a [u16],
     mlists: &'a [u16],
     mranks: &'a [u16],
-    wlens: &'a [u16],
     wlists: &'a [u16],
     wranks: &'a [u16],
     men: [u16; Instance::LARGEST],
@@ -117,37 +114,16 @@ pub fn nearest<'a>(
     woman_ends: [u16; Instance::LARGEST],
     s: usize,
 ) -> Nearest
-    requires { ⌜ GivenEnds n (now mlens) (now mlists) (now mranks) (now wlens) (now wlists) (now wranks) men women «man_ends» «woman_ends» ⌝ }
-    requires { ⌜ s < n ⌝ }
-    ensures { λ r. ⌜ Shows (marketOf n n (now (mlens .entry)) (now (mlists .entry)) (now (wlens .entry)) (now (wlists .entry))) (vec men) (answerOf (marketOf n n (now (mlens .entry)) (now (mlists .entry)) (now (wlens .entry)) (now (wlists .entry))) (λ i. 1) (vec men) s) r ⌝ }
+    ghost { Record }
+    requires { λ R. ⌜ lent n mlists mranks wlists wranks ≡ R ⌝ }
+    requires { λ R. ⌜ GivenEnds R men women «man_ends» «woman_ends» × (s < n) ⌝ }
+    ensures { λ R r. ⌜ ShowsFor R (vec men) s r ⌝ }
 {
-    let w = entry(mlists, n, s, wide(men[s]));
+    let w = list_at(mlists, n, s, wide(men[s]));
     let man_end = man_ends[s];
     let woman_end = woman_ends[w];
-    let down = pushed(
-        n,
-        mlens,
-        mlists,
-        wlens,
-        wlists,
-        wranks,
-        men,
-        women,
-        s,
-        man_end,
-    );
-    let up = pushed(
-        n,
-        wlens,
-        wlists,
-        mlens,
-        mlists,
-        mranks,
-        women,
-        men,
-        w,
-        woman_end,
-    );
+    let down = pushed(n, mlists, wlists, wranks, men, women, s, man_end);
+    let up = pushed(n, wlists, mlists, mranks, women, men, w, woman_end);
     let below = distance(n, down.found, &men, &down.proposers);
     let above = distance(n, up.found, &men, &up.receivers);
     if below < above {

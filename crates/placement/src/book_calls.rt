@@ -1,7 +1,7 @@
 // Books: the check, the size, the writer, one person's list.
-use crate::field::length_in;
-use crate::field::offset_in;
-use crate::field::people_in;
+use book::man_place;
+use book::people_in;
+use book::woman_place;
 use format::Checked;
 use format::Man;
 use format::Woman;
@@ -10,16 +10,17 @@ use replies::verdict_reply;
 ghost use mathlib.Core.Path.{_≡_};
 ghost use Prim.Native.Nat.{_+_};
 ghost use lib.ListN.{length};
+ghost use Rattle.laws.specs.Moment.{now₀, now₁};
 ghost use Rattle.format.specs.Format.{people, offset, listLength, size};
 ghost use Rattle.format.specs.Check.{checkBook};
 ghost use Rattle.format.specs.Person.{checkPerson};
-ghost use Rattle.format.specs.Write.{checkWrite, written};
-ghost use Rattle.replies.specs.Replies.{checkSize, replyFor};
+ghost use Rattle.format.specs.Write.{checkSize, checkWrite, written};
+ghost use Rattle.replies.specs.Replies.{replyFor};
 
 // Checks a book.
 #[no_mangle]
 pub extern "C" fn placement_check_book(book: &[u8]) -> Reply
-    ensures { λ r. ⌜ r ≡ replyFor (checkBook (now (book .entry))) 0 (people (now (book .entry))) ⌝ }
+    ensures { λ r. ⌜ r ≡ replyFor (checkBook (now₀ book)) 0 (people (now₀ book)) ⌝ }
 {
     verdict_reply(book::check(book), 0, people_in(book))
 }
@@ -29,45 +30,44 @@ pub extern "C" fn placement_check_book(book: &[u8]) -> Reply
 pub extern "C" fn placement_book_size(n: usize) -> Reply
     ensures { λ r. ⌜ r ≡ replyFor (checkSize n) 0 (size n) ⌝ }
 {
-    if format::Instance::LARGEST < n {
-        return verdict_reply(book::refuse(3, 1), 0, 0);
-    }
-    verdict_reply(Checked::Fine, 0, book::size_of(n))
+    let checked = book::check_size(n);
+    let Checked::Fine = checked else {
+        return verdict_reply(checked, 0, 0);
+    };
+    let size = book::size_of(n);
+    verdict_reply(checked, 0, size)
 }
 
 // Writes a book.
 #[no_mangle]
 pub extern "C" fn placement_write_book(n: usize, lists: &[u8], out: &mut [u8]) -> Reply
-    ensures answer { λ r. ⌜ r ≡ replyFor (checkWrite n (now (lists .entry)) (length (now (out .entry)))) 0 (size n) ⌝ }
-    ensures bytes { λ _. ⌜ now (out .exit) ≡ written (checkWrite n (now (lists .entry)) (length (now (out .entry)))) n (now (lists .entry)) (now (out .entry)) ⌝ }
+    ensures answer { λ r. ⌜ r ≡ replyFor (checkWrite n (now₀ lists) (length (now₀ out))) 0 (size n) ⌝ }
+    ensures bytes { λ _. ⌜ now₁ out ≡ written (checkWrite n (now₀ lists) (length (now₀ out))) n (now₀ lists) (now₀ out) ⌝ }
 {
     let checked = writer::write(n, lists, out);
-    if format::Instance::LARGEST < n {
+    let Checked::Fine = checked else {
         return verdict_reply(checked, 0, 0);
-    }
+    };
     verdict_reply(checked, 0, book::size_of(n))
 }
 
 // A student's list: its offset in the book and its number of bytes.
 #[no_mangle]
 pub extern "C" fn placement_student_list(book: &[u8], student: u8) -> Reply
-    ensures { λ r. ⌜ r ≡ replyFor (checkPerson (now (book .entry)) student) (offset (now (book .entry)) student) (listLength (now (book .entry)) student) ⌝ }
+    ensures { λ r. ⌜ r ≡ replyFor (checkPerson (now₀ book) student) (offset (now₀ book) student) (listLength (now₀ book) student) ⌝ }
 {
     let checked = book::check_man(book, Man(student));
-    let k = book::wide(student);
-    let at = offset_in(book, k);
-    let len = length_in(book, k);
-    verdict_reply(checked, at, len)
+    let place = man_place(book, Man(student));
+    verdict_reply(checked, place.at, place.len)
 }
 
 // A mentor's list.
 #[no_mangle]
 pub extern "C" fn placement_mentor_list(book: &[u8], mentor: u8) -> Reply
-    ensures { λ r. ⌜ r ≡ replyFor (checkPerson (now (book .entry)) mentor) (offset (now (book .entry)) (people (now (book .entry)) + mentor)) (listLength (now (book .entry)) (people (now (book .entry)) + mentor)) ⌝ }
+    ensures { λ r. ⌜ r ≡ replyFor (checkPerson (now₀ book) mentor) (offset (now₀ book) (people (now₀ book) + mentor))
+        (listLength (now₀ book) (people (now₀ book) + mentor)) ⌝ }
 {
     let checked = book::check_woman(book, Woman(mentor));
-    let k = people_in(book) + book::wide(mentor);
-    let at = offset_in(book, k);
-    let len = length_in(book, k);
-    verdict_reply(checked, at, len)
+    let place = woman_place(book, Woman(mentor));
+    verdict_reply(checked, place.at, place.len)
 }

@@ -1,11 +1,7 @@
--- Proposals: the market of tables, a turn, a chain and a push. Assumes nothing.
-pub mod Lists
-pub mod Answers
-pub mod Inverse
+-- Proposals: a turn, a chain and a push, as contracts cite them; Laws has what only proofs cite. Assumes nothing.
 pub mod Best
 pub mod Turn
-pub mod Step
+pub mod Tests
 pub mod Settling
-pub mod Whole
-pub mod Gap
 pub mod Push
+pub mod Laws

@@ -1,64 +1,66 @@
 // A chain of proposals: one proposer goes on at each turn.
-use crate::table::entry;
-use crate::table::wide;
+use tables::entry;
+use tables::list_at;
+use tables::list_len;
+use tables::wide;
 ghost use mathlib.Core.Path.{_≡_};
-ghost use Prim.Native.Nat.{_+_, _<_};
+ghost use Prim.Native.Nat.{_<_};
 ghost use lib.ListN.{length};
+ghost use Rattle.laws.specs.Moment.{now₀, vec₀, vec₁};
 ghost use Rattle.laws.specs.Values.{vec};
-ghost use Rattle.proposals.specs.Lists.{Tables, Stored, Sized, sideOf, marketOf};
-ghost use Rattle.proposals.specs.Answers.{standing};
+ghost use Rattle.tables.specs.Lists.{Tables, tables, market, Sound, Stored, Sized, sideOf};
+ghost use Rattle.proposals.specs.Tests.{standing};
 ghost use Rattle.proposals.specs.Turn.{Turn, Ran, Ready};
 
 // Whether proposer i holds receiver w.
-pub fn holds(b: usize, plens: &[u16], plists: &[u16], p: &[u16], i: usize, w: usize) -> bool
-    requires { ⌜ Stored (length (now p)) b (now plens) (now plists) ⌝ }
-    requires { ⌜ i < length (now p) ⌝ }
-    ensures { λ r. ⌜ r ≡ standing (sideOf (length (now (p .entry))) b (now (plens .entry)) (now (plists .entry))) (vec (now (p .entry))) i w ⌝ }
+pub fn holds(a: usize, b: usize, plists: &[u16], p: &[u16], i: usize, w: usize) -> bool
+    requires { ⌜ Stored a b (now plists) × (length (now p) ≡ a) × (i < a) ⌝ }
+    ensures { λ r. ⌜ r ≡ standing (sideOf a b (now₀ plists)) (vec₀ p) i w ⌝ }
 {
     let place = wide(p[i]);
-    if wide(plens[i]) <= place {
+    if list_len(plists, a, b, i) <= place {
         return false;
     }
-    entry(plists, b, i, place) == w
+    list_at(plists, b, i, place) == w
 }
 
 // One turn: proposer c goes on by one place. The answer is who goes on after him, as `Turn` has it.
 fn step(
     a: usize,
     b: usize,
-    plens: &[u16],
     plists: &[u16],
-    rlens: &[u16],
     rlists: &[u16],
     ranks: &[u16],
     p: &mut [u16],
     t: &mut [u16],
     c: usize,
 ) -> usize
-    requires { ⌜ Tables a b (now plens) (now plists) (now rlens) (now rlists) (now ranks) ⌝ }
-    requires { ⌜ Sized a b (now p) (now t) ⌝ }
-    requires { ⌜ c < a ⌝ }
-    requires { ⌜ Ready (marketOf a b (now plens) (now plists) (now rlens) (now rlists)) (vec (now p)) (vec (now t)) c ⌝ }
-    ensures { λ r. ⌜ Turn (marketOf a b (now (plens .entry)) (now (plists .entry)) (now (rlens .entry)) (now (rlists .entry))) (vec (now (p .entry))) (vec (now (t .entry))) c (vec (now (p .exit))) (vec (now (t .exit))) r ⌝ }
+    ghost { Tables }
+    requires { λ K. ⌜ tables a b plists rlists ranks ≡ K ⌝ }
+    requires { λ K. ⌜ Sound K ⌝ }
+    requires { λ _. ⌜ Sized a b (now p) (now t) ⌝ }
+    requires { λ _. ⌜ c < a ⌝ }
+    requires { λ K. ⌜ Ready (market K) (vec (now p)) (vec (now t)) c ⌝ }
+    ensures { λ K r. ⌜ Turn (market K) (vec₀ p) (vec₀ t) c (vec₁ p) (vec₁ t) r ⌝ }
 {
-    let len = wide(plens[c]);
+    let len = list_len(plists, a, b, c);
     let place = wide(p[c]) + 1;
     p[c] = place as u16;
     if len <= place {
         return a + 1;
     }
-    let w = entry(plists, b, c, place);
+    let w = list_at(plists, b, c, place);
     let rank = entry(ranks, a, w, c);
     let best = wide(t[w]);
     if best <= rank {
         return c;
     }
     t[w] = rank as u16;
-    if wide(rlens[w]) <= best {
+    if list_len(rlists, b, a, w) <= best {
         return a + 1;
     }
-    let j = entry(rlists, a, w, best);
-    if holds(b, plens, plists, p, j, w) {
+    let j = list_at(rlists, a, w, best);
+    if holds(a, b, plists, p, j, w) {
         return j;
     }
     a
@@ -68,23 +70,23 @@ fn step(
 pub fn chain(
     a: usize,
     b: usize,
-    plens: &[u16],
     plists: &[u16],
-    rlens: &[u16],
     rlists: &[u16],
     ranks: &[u16],
     p: &mut [u16],
     t: &mut [u16],
     c: usize,
 ) -> usize
-    requires { ⌜ Tables a b (now plens) (now plists) (now rlens) (now rlists) (now ranks) ⌝ }
-    requires { ⌜ Sized a b (now p) (now t) ⌝ }
-    requires { ⌜ Ready (marketOf a b (now plens) (now plists) (now rlens) (now rlists)) (vec (now p)) (vec (now t)) c ⌝ }
-    ensures { λ r. ⌜ Ran (marketOf a b (now (plens .entry)) (now (plists .entry)) (now (rlens .entry)) (now (rlists .entry))) (vec (now (p .entry))) (vec (now (t .entry))) c (vec (now (p .exit))) (vec (now (t .exit))) r ⌝ }
+    ghost { Tables }
+    requires { λ K. ⌜ tables a b plists rlists ranks ≡ K ⌝ }
+    requires { λ K. ⌜ Sound K ⌝ }
+    requires { λ _. ⌜ Sized a b (now p) (now t) ⌝ }
+    requires { λ K. ⌜ Ready (market K) (vec (now p)) (vec (now t)) c ⌝ }
+    ensures { λ K r. ⌜ Ran (market K) (vec₀ p) (vec₀ t) c (vec₁ p) (vec₁ t) r ⌝ }
 {
     let mut cur = c;
     while cur < a {
-        cur = step(a, b, plens, plists, rlens, rlists, ranks, p, t, cur);
+        cur = step(a, b, plists, rlists, ranks, p, t, cur);
     }
     cur
 }

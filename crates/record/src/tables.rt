@@ -1,51 +1,42 @@
 // Makes the record of a book: its tables are filled once from the lists.
 use book::check;
-use book::length_of;
 use book::list_of;
 use book::wide;
 use format::Checked;
 use format::Instance;
-use format::Loaded;
 ghost use mathlib.Core.Path.{_≡_};
 ghost use lib.ListN.{length};
+ghost use Rattle.laws.specs.Moment.{now₀, now₁};
 ghost use Rattle.laws.specs.Stores.{Stores};
 ghost use Rattle.format.specs.Verdict.{verdictOf};
-ghost use Rattle.format.specs.Format.{byte, people, entry};
+ghost use Rattle.format.specs.Format.{byte, people};
 ghost use Rattle.format.specs.Check.{checkBook};
-ghost use Rattle.format.specs.Place.{place};
-ghost use Rattle.format.specs.Record.{numberIf, Recorded, Side, Lengths, Rows, Row};
+ghost use Rattle.format.specs.Record.{numberIf, recordOf, Cleared, Recorded, Side, SideTables, Row};
 
-// The record of a book that is well formed, or one with n = 0 and zeros alone. Its tables are filled where they lie.
-pub fn load(book: &[u8]) -> Loaded
-    ensures { λ r. ⌜ Recorded (now (book .entry)) r ⌝ }
+// Makes the record of a book in the lent tables, which hold zeros: of one that is refused n is 0, and the tables stay
+// zeros.
+pub fn load(
+    book: &[u8],
+    mlists: &mut [u16; Instance::LISTS],
+    mranks: &mut [u16; Instance::RANKS],
+    wlists: &mut [u16; Instance::LISTS],
+    wranks: &mut [u16; Instance::RANKS],
+) -> Instance
+    requires { ⌜ Cleared (now mlists) (now mranks) ⌝ }
+    requires { ⌜ Cleared (now wlists) (now wranks) ⌝ }
+    ensures { λ r. ⌜ Recorded (now₀ book) r (recordOf (r .n) (now₁ mlists) (now₁ mranks) (now₁ wlists) (now₁ wranks)) ⌝ }
 {
     let checked = check(book);
     let n = number(checked, book);
-    let mut loaded = Loaded {
-        checked,
-        instance: Instance {
-            n,
-            man_lengths: [0u16; Instance::LARGEST],
-            man_lists: [0u16; Instance::CELLS],
-            man_ranks: [0u16; Instance::CELLS],
-            woman_lengths: [0u16; Instance::LARGEST],
-            woman_lists: [0u16; Instance::CELLS],
-            woman_ranks: [0u16; Instance::CELLS],
-        },
-    };
-    fill_lengths(book, n, 0, &mut loaded.instance.man_lengths);
-    fill_lists(book, n, 0, &mut loaded.instance.man_lists);
-    fill_ranks(book, n, 0, &mut loaded.instance.man_ranks);
-    fill_lengths(book, n, n, &mut loaded.instance.woman_lengths);
-    fill_lists(book, n, n, &mut loaded.instance.woman_lists);
-    fill_ranks(book, n, n, &mut loaded.instance.woman_ranks);
-    loaded
+    fill_side(book, n, 0, mlists, mranks);
+    fill_side(book, n, n, wlists, wranks);
+    Instance { checked, n }
 }
 
 // n of a book that is well formed, and 0 where it is refused.
 fn number(checked: Checked, book: &[u8]) -> usize
     requires { ⌜ verdictOf checked ≡ checkBook (now book) ⌝ }
-    ensures { λ r. ⌜ r ≡ numberIf (checkBook (now (book .entry))) (people (now (book .entry))) ⌝ }
+    ensures { λ r. ⌜ r ≡ numberIf (checkBook (now₀ book)) (people (now₀ book)) ⌝ }
 {
     let Checked::Fine = checked else {
         return 0;
@@ -53,67 +44,44 @@ fn number(checked: Checked, book: &[u8]) -> usize
     wide(book[1])
 }
 
-// How long the lists of a side are, which are those from number `from` on.
-fn fill_lengths(book: &[u8], n: usize, from: usize, lengths: &mut [u16; Instance::LARGEST])
+// Fills the tables of one side row by row. Its lists are those from number `from` on.
+fn fill_side(
+    book: &[u8],
+    n: usize,
+    from: usize,
+    lists: &mut [u16; Instance::LISTS],
+    ranks: &mut [u16; Instance::RANKS],
+)
     requires { ⌜ Side (now book) n from ⌝ }
-    requires { ⌜ Lengths (now book) from 0 (now lengths) ⌝ }
-    ensures { λ _. ⌜ Lengths (now (book .entry)) from n (now (lengths .exit)) ⌝ }
+    requires { ⌜ SideTables (now book) n from 0 (now lists) (now ranks) ⌝ }
+    ensures { λ _. ⌜ SideTables (now₀ book) n from n (now₁ lists) (now₁ ranks) ⌝ }
 {
     let mut i = 0;
     while i < n {
-        lengths[i] = length_of(book, from + i) as u16;
+        let list = list_of(book, from + i);
+        lists[n * n + i] = list.len() as u16;
+        fill_row(list, i * n, lists, ranks);
         i += 1;
     }
 }
 
-// Entry j of a list goes to cell j of the row that starts at `at`.
-fn copy_row(list: &[u8], at: usize, lists: &mut [u16; Instance::CELLS])
-    requires { ⌜ Row (now list) at (now lists) ⌝ }
-    ensures { λ _. ⌜ Stores at (length (now (list .entry))) (λ j. j) (byte (now (list .entry))) (now (lists .entry)) (now (lists .exit)) ⌝ }
+// Fills the row of both tables that starts at `at`: entry j of the list goes to cell j of the lists, and j to the
+// cell of the ranks that the entry names.
+fn fill_row(
+    list: &[u8],
+    at: usize,
+    lists: &mut [u16; Instance::LISTS],
+    ranks: &mut [u16; Instance::RANKS],
+)
+    requires { ⌜ Row (now list) at (now lists) (now ranks) ⌝ }
+    ensures entries { λ _. ⌜ Stores at (length (now₀ list)) (λ j. j) (byte (now₀ list)) (now₀ lists) (now₁ lists) ⌝ }
+    ensures places { λ _. ⌜ Stores at (length (now₀ list)) (byte (now₀ list)) (λ j. j) (now₀ ranks) (now₁ ranks) ⌝ }
 {
     let mut j = 0;
     while j < list.len() {
         let e = wide(list[j]);
         lists[at + j] = e as u16;
-        j += 1;
-    }
-}
-
-// The place of an entry goes to the cell of the row that the entry names.
-fn rank_row(list: &[u8], at: usize, ranks: &mut [u16; Instance::CELLS])
-    requires { ⌜ Row (now list) at (now ranks) ⌝ }
-    ensures { λ _. ⌜ Stores at (length (now (list .entry))) (byte (now (list .entry))) (λ j. j) (now (ranks .entry)) (now (ranks .exit)) ⌝ }
-{
-    let mut j = 0;
-    while j < list.len() {
-        let e = wide(list[j]);
         ranks[at + e] = j as u16;
         j += 1;
-    }
-}
-
-// The lists of a side, row by row.
-fn fill_lists(book: &[u8], n: usize, from: usize, lists: &mut [u16; Instance::CELLS])
-    requires { ⌜ Side (now book) n from ⌝ }
-    requires { ⌜ Rows n (entry (now book)) from 0 (now lists) ⌝ }
-    ensures { λ _. ⌜ Rows n (entry (now (book .entry))) from n (now (lists .exit)) ⌝ }
-{
-    let mut i = 0;
-    while i < n {
-        copy_row(list_of(book, from + i), i * n, lists);
-        i += 1;
-    }
-}
-
-// The ranks of a side, row by row.
-fn fill_ranks(book: &[u8], n: usize, from: usize, ranks: &mut [u16; Instance::CELLS])
-    requires { ⌜ Side (now book) n from ⌝ }
-    requires { ⌜ Rows n (place (now book)) from 0 (now ranks) ⌝ }
-    ensures { λ _. ⌜ Rows n (place (now (book .entry))) from n (now (ranks .exit)) ⌝ }
-{
-    let mut i = 0;
-    while i < n {
-        rank_row(list_of(book, from + i), i * n, ranks);
-        i += 1;
     }
 }

@@ -1,2 +1,3 @@
--- What the proof of a repair cites. Assumes nothing.
+-- The repair of a pair: Repaired has what contracts cite, Laws what only proofs cite. Assumes nothing.
+pub mod Repaired
 pub mod Laws

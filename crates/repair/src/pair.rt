@@ -1,29 +1,27 @@
 // Repair of a pair: the request's rules, the nearest repair, and the two result buffers.
+use book::entry_in;
 use book::refuse;
-use book::wide;
 use format::Checked;
 use format::Instance;
-use matchings::Places;
-use nearest::Nearest;
 use nearest::nearest;
 use record::load;
-use repair_answer::answer;
 use repairs::Answer;
 use stability::judge;
 ghost use mathlib.Core.Path.{_≡_};
-ghost use Prim.Native.Nat.{_≤_, _<_};
+ghost use Prim.Native.Nat.{_≤_};
 ghost use lib.ListN.{length};
-ghost use Rattle.laws.specs.Values.{vec};
-ghost use Rattle.format.specs.Record.{recordOf};
+ghost use Rattle.laws.specs.Moment.{now₀, now₁};
+ghost use Rattle.format.specs.Outcome.{after};
+ghost use Rattle.format.specs.Record.{Record, lent};
 ghost use Rattle.format.specs.Verdict.{verdictOf};
-ghost use Rattle.stable_theory.specs.Repairs.Answer.{answerOf};
-ghost use Rattle.proposals.specs.Lists.{marketOf};
-ghost use Rattle.nearest.specs.Nearest.{GivenIn, Shows};
-ghost use Rattle.repairs.specs.Repair.{fixed, replyOf, replyIf, repairReply, repairMatching, repairGains};
+ghost use Rattle.stability.specs.Judge.{FromBook};
+ghost use Rattle.repairs.specs.Repair.{fixed, repairOutcome, repairReply, repairMatching, repairGains};
 ghost use Rattle.repairs.specs.Request.{checkPair};
+ghost use Rattle.repair.specs.Repaired.{Repairs};
 
-// The repair of the pair that the request names, student then mentor, or the first rule that is broken and where. A repair's matching goes to
-// the front of `out` and each student's places gained to that of `gains`; past n entries, and otherwise, both stay as they were.
+// The repair of the pair that the request names, student then mentor, or the first rule that is broken and where. A
+// repair's matching goes to the front of `out` and each student's places gained to that of `gains`; past n entries,
+// and otherwise, both stay as they were.
 pub fn repair(
     book: &[u8],
     matching: &[u8],
@@ -31,24 +29,50 @@ pub fn repair(
     out: &mut [u8],
     gains: &mut [i8],
 ) -> Answer
-    ensures reply { λ r. ⌜ replyOf r ≡ repairReply (now (book .entry)) (now (matching .entry)) (now (request .entry)) (now (out .entry)) (now (gains .entry)) ⌝ }
-    ensures bytes { λ _. ⌜ now (out .exit) ≡ repairMatching (now (book .entry)) (now (matching .entry)) (now (request .entry)) (now (out .entry)) (now (gains .entry)) ⌝ }
-    ensures places { λ _. ⌜ now (gains .exit) ≡ repairGains (now (book .entry)) (now (matching .entry)) (now (request .entry)) (now (out .entry)) (now (gains .entry)) ⌝ }
+    ensures reply { λ r. ⌜ repairOutcome r ≡ repairReply (now₀ book) (now₀ matching) (now₀ request) (now₀ out) (now₀ gains) ⌝ }
+    ensures bytes { λ _. ⌜ now₁ out ≡ repairMatching (now₀ book) (now₀ matching) (now₀ request) (now₀ out) (now₀ gains) ⌝ }
+    ensures places { λ _. ⌜ now₁ gains ≡ repairGains (now₀ book) (now₀ matching) (now₀ request) (now₀ out) (now₀ gains) ⌝ }
 {
-    let loaded = load(book);
-    let read = loaded.checked;
-    let n = loaded.instance.n;
-    let judged = judge(
-        read,
+    let mut mlists = [0u16; Instance::LISTS];
+    let mut mranks = [0u16; Instance::RANKS];
+    let mut wlists = [0u16; Instance::LISTS];
+    let mut wranks = [0u16; Instance::RANKS];
+    let instance = load(book, &mut mlists, &mut mranks, &mut wlists, &mut wranks);
+    let answer = instance.checked;
+    let n = instance.n;
+    repair_in(
+        answer,
         n,
-        &loaded.instance.man_lengths,
-        &loaded.instance.man_lists,
-        &loaded.instance.man_ranks,
-        &loaded.instance.woman_lengths,
-        &loaded.instance.woman_lists,
-        &loaded.instance.woman_ranks,
+        &mlists,
+        &mranks,
+        &wlists,
+        &wranks,
         matching,
-    );
+        request,
+        out,
+        gains,
+    )
+}
+
+// The same from what is made of the book: for each book of which that is made. Both repairs of the pair are tried.
+fn repair_in<'a>(
+    answer: Checked,
+    n: usize,
+    mlists: &'a [u16],
+    mranks: &'a [u16],
+    wlists: &'a [u16],
+    wranks: &'a [u16],
+    matching: &[u8],
+    request: &[u8],
+    out: &mut [u8],
+    gains: &mut [i8],
+) -> Answer
+    ghost { Record }
+    requires { λ R. ⌜ lent n mlists mranks wlists wranks ≡ R ⌝ }
+    requires { λ R. ⌜ FromBook answer R ⌝ }
+    ensures { λ R r. ⌜ Repairs answer R (now₀ matching) (now₀ request) (now₀ out) (now₀ gains) r (now₁ out) (now₁ gains) ⌝ }
+{
+    let judged = judge(answer, n, mlists, mranks, wlists, wranks, matching);
     let checked = judged.checked;
     let Checked::Fine = checked else {
         return refused(checked);
@@ -59,26 +83,29 @@ pub fn repair(
     let Checked::Fine = asked else {
         return refused(asked);
     };
-    let asking = wide(request[0]);
+    let asking = entry_in(request, 0);
     let places = judged.places;
-    let found = nearest_in(
+    let men = places.men;
+    let women = places.women;
+    let none = [65535u16; Instance::LARGEST];
+    let found = nearest(
         n,
-        &loaded.instance.man_lengths,
-        &loaded.instance.man_lists,
-        &loaded.instance.man_ranks,
-        &loaded.instance.woman_lengths,
-        &loaded.instance.woman_lists,
-        &loaded.instance.woman_ranks,
-        places,
+        mlists,
+        mranks,
+        wlists,
+        wranks,
+        men,
+        women,
+        none,
+        none,
         asking,
     );
-    let men = places.men;
-    answer(n, &loaded.instance.man_lists, men, found, out, gains)
+    repair_answer::answer(n, mlists, men, found, out, gains)
 }
 
 // A refusal as the answer for a pair; where nothing is refused, fixed.
 fn refused(checked: Checked) -> Answer
-    ensures { λ r. ⌜ replyOf r ≡ replyIf (verdictOf checked) fixed ⌝ }
+    ensures { λ r. ⌜ repairOutcome r ≡ after (verdictOf checked) fixed ⌝ }
 {
     match checked {
         Checked::Refused(r) => Answer::Refused(r),
@@ -86,23 +113,23 @@ fn refused(checked: Checked) -> Answer
     }
 }
 
-// Rules 13, 11, 12 and 14 of a request, for a matching of n bytes.
+// Rules 13, 11, 12 and 14 of a request, for a matching of n men.
 fn check_pair(n: usize, matching: &[u8], request: &[u8], room: usize, gains_room: usize) -> Checked
     requires { ⌜ n ≤ length (now matching) ⌝ }
-    ensures { λ r. ⌜ verdictOf r ≡ checkPair n (now (matching .entry)) (now (request .entry)) room «gains_room» ⌝ }
+    ensures { λ r. ⌜ verdictOf r ≡ checkPair n (now₀ matching) (now₀ request) room «gains_room» ⌝ }
 {
     if request.len() != 2 {
         return refuse(13, 0);
     }
-    let s = wide(request[0]);
-    let w = wide(request[1]);
+    let s = entry_in(request, 0);
+    let w = entry_in(request, 1);
     if n <= s {
         return refuse(11, 0);
     }
     if n <= w {
         return refuse(11, 0);
     }
-    if wide(matching[s]) != w {
+    if entry_in(matching, s) != w {
         return refuse(12, 0);
     }
     if room < n {
@@ -112,39 +139,4 @@ fn check_pair(n: usize, matching: &[u8], request: &[u8], room: usize, gains_room
         return refuse(14, 0);
     }
     Checked::Fine
-}
-
-// The nearest repair of the pair of man s of a stable matching; both repairs are tried.
-fn nearest_in<'a>(
-    n: usize,
-    mlens: &'a [u16],
-    mlists: &'a [u16],
-    mranks: &'a [u16],
-    wlens: &'a [u16],
-    wlists: &'a [u16],
-    wranks: &'a [u16],
-    places: Places,
-    s: usize,
-) -> Nearest
-    requires { ⌜ GivenIn (recordOf n (now mlens) (now mlists) (now mranks) (now wlens) (now wlists) (now wranks)) places ⌝ }
-    requires { ⌜ s < n ⌝ }
-    ensures { λ r. ⌜ Shows (marketOf n n (now (mlens .entry)) (now (mlists .entry)) (now (wlens .entry)) (now (wlists .entry))) (vec (places .men)) (answerOf (marketOf n n (now (mlens .entry)) (now (mlists .entry)) (now (wlens .entry)) (now (wlists .entry))) (λ i. 1) (vec (places .men)) s) r ⌝ }
-{
-    let men = places.men;
-    let women = places.women;
-    let none = [65535u16; Instance::LARGEST];
-    nearest(
-        n,
-        mlens,
-        mlists,
-        mranks,
-        wlens,
-        wlists,
-        wranks,
-        men,
-        women,
-        none,
-        none,
-        s,
-    )
 }

@@ -1,23 +1,32 @@
--- What is made of the nearest repair: the reply, and what the result buffers hold. Assumes nothing.
+-- What is made of the nearest repair: the answer, and what the result buffers hold. Assumes nothing.
 use Prim.Native.Nat.{ℕ, _≤_, _<_}
 use mathlib.Core.List.{List}
 use lib.ListN.{length}
-use Rattle.laws.specs.Values.{vec}
+use lib.IntN.{ℤ}
+use Rattle.laws.specs.Difference.{less}
+use Rattle.laws.specs.Values.{vec, values}
+use Rattle.format.specs.Verdict.{fine}
+use Rattle.format.specs.Outcome.{filled}
 use Rattle.nearest.specs.declared.answer.Letter.{Letter}
 use Rattle.nearest.specs.declared.answer.Letter.the-variants.{Up, Down, Fixed}
-use Rattle.repairs.specs.Repair.{Reply, up, down, fixed}
+use Rattle.repairs.specs.Repair.{RepairAnswer, up, down, fixed}
 
--- The reply for a letter and a distance
-abbrev pub shownReply : Letter → ℕ → Reply
-shownReply Up distance = up distance
-shownReply Down distance = down distance
-shownReply Fixed distance = fixed
+-- The answer for a letter and a distance
+abbrev pub shownAnswer : Letter → ℕ → RepairAnswer
+shownAnswer Up distance = up distance
+shownAnswer Down distance = down distance
+shownAnswer Fixed distance = fixed
 
--- What stands after a repair, and what stood where the pair is fixed
-abbrev pub shownIf : {A : Type 0} → Letter → A → A → A
-shownIf Up after before = after
-shownIf Down after before = after
-shownIf Fixed after before = before
+-- What a buffer holds afterwards: the n entries of a repair and past them what it held, or all that it held where the
+-- pair is fixed
+abbrev pub shownIn : {A : Type 0} → Letter → ℕ → List A → List A → List A
+shownIn Up n result out = filled fine n result out
+shownIn Down n result out = filled fine n result out
+shownIn Fixed n result out = out
+
+-- The places that each of n men gains from p to q
+abbrev pub gainsAt : ℕ → (ℕ → ℕ) → (ℕ → ℕ) → List ℤ
+gainsAt n p q = values (λ i. less (p i) (q i)) 0 n
 
 -- n places that fit a signed byte
 pub record Small (n : ℕ) (places : List ℕ) : Type 0 where

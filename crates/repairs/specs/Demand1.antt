@@ -1,19 +1,18 @@
--- Demand 1 of a repair: a refusal leaves the lent result buffers unchanged. b is the book, m the given matching, q the request. Assumes nothing.
+-- Demand 1 of a repair: a refusal leaves the lent result buffers unchanged. b is the book, m the given matching, q the
+-- request. Assumes nothing.
 use Prim.Native.Nat.{ℕ}
-use mathlib.Core.Path.{_≡_, ap}
+use mathlib.Core.Path.{_≡_, sym}
 use mathlib.Core.List.{List}
 use lib.ListN.{length}
 use lib.IntN.{ℤ}
-use Rattle.format.specs.Verdict.{Verdict, refused}
-use Rattle.format.specs.Format.{byte}
+use Rattle.format.specs.Verdict.{refused}
+use Rattle.format.specs.Laws.Outcome.{filled-refused}
 use Rattle.repairs.specs.Request.{checkRequest}
-use Rattle.repairs.specs.Repair.{answerFor, matchingAfter, gainsAfter, writtenIf, repairMatching, repairGains}
+use Rattle.repairs.specs.Repair.{repairMatching, repairGains}
 
 -- Where a rule is broken, the matching's buffer and that of the places gained hold what they held
 pub refused-unchanged :
     (b m q out : List ℕ) (gains : List ℤ) {number place second : ℕ} →
     checkRequest b m q (length out) (length gains) ≡ refused number place second →
     (repairMatching b m q out gains ≡ out) × (repairGains b m q out gains ≡ gains)
-refused-unchanged b m q out gains e =
-    let a = answerFor b m (byte q 0) in
-    (ap (λ (v : Verdict). writtenIf v (matchingAfter b a out) out) e, ap (λ (v : Verdict). writtenIf v (gainsAfter b m a gains) gains) e)
+refused-unchanged b m q out gains e = (sym (filled-refused e _ _ out), sym (filled-refused e _ _ gains))

@@ -1,8 +1,8 @@
--- The words of demand 3, of bytes: b is a book, m and k are matchings of it, byte i of a matching is the mentor of student i, s is the asking
--- student. A matching is stable where its check refuses nothing. Assumes nothing.
-use Prim.Native.Nat.{ℕ, _≤_, _<_}
+-- The words of demand 3: b is a book, m and k are matchings of it, `womanOf m i` is the mentor of student i in m, s is
+-- the asking student. A matching is stable where its check refuses nothing. Assumes nothing.
+use Prim.Native.Nat.{ℕ, _-_, _≤_, _<_}
 use mathlib.Core.Path.{_≡_}
-use mathlib.Core.List.{List, [], _∷_}
+use mathlib.Core.List.{List}
 use mathlib.Core.Bool.{not}
 use mathlib.Core.Logic.{_↔_}
 use lib.ListN.{take, getD}
@@ -12,13 +12,14 @@ use Rattle.laws.specs.Choice.{both}
 use Rattle.laws.specs.Sum.{count}
 use Rattle.laws.specs.Difference.{less}
 use Rattle.format.specs.Verdict.{fine}
-use Rattle.format.specs.Format.{byte, people}
-use Rattle.matchings.specs.Matching.{manRank, checkMatching}
-use Rattle.repairs.specs.Repair.{movedCount, Reply, up, down}
+use Rattle.format.specs.Outcome.{Outcome, gives}
+use Rattle.format.specs.Format.{largest, people, pairRow}
+use Rattle.matchings.specs.Matching.{manRank, checkMatching, womanOf}
+use Rattle.repairs.specs.Repair.{movedCount, RepairAnswer, up, down}
 
 -- The request for the pair of student s of m
 abbrev pub pairOf : List ℕ → ℕ → List ℕ
-pairOf m s = s ∷ byte m s ∷ []
+pairOf m s = pairRow s (womanOf m s)
 
 -- The first n entries of the matching's buffer
 abbrev pub written : List ℕ → List ℕ → List ℕ
@@ -26,16 +27,16 @@ written b out = take (people b) out
 
 -- Every stable matching of the book holds the pair
 abbrev pub InEvery : List ℕ → List ℕ → ℕ → Type 0
-InEvery b m s = (k : List ℕ) → checkMatching b k ≡ fine → byte k s ≡ byte m s
+InEvery b m s = (k : List ℕ) → checkMatching b k ≡ fine → womanOf k s ≡ womanOf m s
 
 -- k is a stable matching without the pair
 pub record Without (b m : List ℕ) (s : ℕ) (k : List ℕ) : Type 0 where
   pub stable : checkMatching b k ≡ fine
-  pub without : byte k s ≡ byte m s → ⊥
+  pub without : womanOf k s ≡ womanOf m s → ⊥
 
 -- Each student's place in k stands in the relation R to his place in m
 abbrev pub Each : (ℕ → ℕ → Type 0) → List ℕ → List ℕ → List ℕ → Type 0
-Each R b k m = (i : ℕ) → i < people b → R (manRank b i (byte k i)) (manRank b i (byte m i))
+Each R b k m = (i : ℕ) → i < people b → R (manRank b i (womanOf k i)) (manRank b i (womanOf m i))
 
 -- a student who is no worse off, and one who is no better off
 abbrev pub NoWorse : ℕ → ℕ → Type 0
@@ -44,13 +45,15 @@ NoWorse new old = new ≤ old
 abbrev pub NoBetter : ℕ → ℕ → Type 0
 NoBetter new old = old ≤ new
 
--- Of the stable matchings k without the pair in which each student is R to m, r is the one to which each student is R in every k
+-- Of the stable matchings k without the pair in which each student is R to m, r is the one to which each student is R
+-- in every k
 pub record Repaired (R : ℕ → ℕ → Type 0) (b m : List ℕ) (s : ℕ) (r : List ℕ) : Type 0 where
   pub parts : Without b m s r
   pub toward : Each R b r m
   pub last : (k : List ℕ) → Without b m s k → Each R b k m → Each R b k r
 
--- Repair up: of those in which no student is worse off, that in which each has the lowest-ranked mentor that any of these gives
+-- Repair up: of those in which no student is worse off, that in which each has the lowest-ranked mentor that any of
+-- these gives
 abbrev pub RepairUp : List ℕ → List ℕ → ℕ → List ℕ → Type 0
 RepairUp b m s r = Repaired NoWorse b m s r
 
@@ -58,24 +61,28 @@ RepairUp b m s r = Repaired NoWorse b m s r
 abbrev pub RepairDown : List ℕ → List ℕ → ℕ → List ℕ → Type 0
 RepairDown b m s r = Repaired NoBetter b m s r
 
--- The repair that document 01 takes, with its reply: the nearer, at equal distance up; the distance reported is the number of students moved
-pub data Takes (b m : List ℕ) (s : ℕ) (r : List ℕ) : Reply → Type 0 where
-  takes-up : RepairUp b m s r → ((d : List ℕ) → RepairDown b m s d → movedCount (people b) m r ≤ movedCount (people b) m d) → Takes b m s r (up (movedCount (people b) m r))
-  takes-down : RepairDown b m s r → ((u : List ℕ) → RepairUp b m s u → movedCount (people b) m r < movedCount (people b) m u) → Takes b m s r (down (movedCount (people b) m r))
+-- The repair that document 01 takes, with its reply: the nearer, at equal distance up; the distance reported is the
+-- number of students moved
+pub data Takes (b m : List ℕ) (s : ℕ) (r : List ℕ) : Outcome RepairAnswer → Type 0 where
+  takes-up : RepairUp b m s r → ((d : List ℕ) → RepairDown b m s d → movedCount (people b) m r ≤ movedCount (people b) m d) →
+      Takes b m s r (gives (up (movedCount (people b) m r)))
+  takes-down : RepairDown b m s r → ((u : List ℕ) → RepairUp b m s u → movedCount (people b) m r < movedCount (people b) m u) →
+      Takes b m s r (gives (down (movedCount (people b) m r)))
 
 -- no stable matching without the pair moves fewer than r
 abbrev pub Fewest : List ℕ → List ℕ → ℕ → List ℕ → Type 0
 Fewest b m s r = (k : List ℕ) → Without b m s k → movedCount (people b) m r ≤ movedCount (people b) m k
 
--- The entries are the places gained by each student from m to r, old place less new: 0 exactly where he is unmoved, −63 to 63
+-- The entries are the places gained by each student from m to r, old place less new: 0 exactly where he is unmoved, and
+-- at most one less than the largest n, up or down
 pub record Gained (b m r : List ℕ) (gains : List ℤ) : Type 0 where
-  pub is : (i : ℕ) → i < people b → getD gains i (pos 0) ≡ less (manRank b i (byte m i)) (manRank b i (byte r i))
-  pub zero : (i : ℕ) → i < people b → getD gains i (pos 0) ≡ pos 0 ↔ byte r i ≡ byte m i
-  pub small : (i : ℕ) → i < people b → natAbs (getD gains i (pos 0)) ≤ 63
+  pub is : (i : ℕ) → i < people b → getD gains i (pos 0) ≡ less (manRank b i (womanOf m i)) (manRank b i (womanOf r i))
+  pub zero : (i : ℕ) → i < people b → getD gains i (pos 0) ≡ pos 0 ↔ womanOf r i ≡ womanOf m i
+  pub small : (i : ℕ) → i < people b → natAbs (getD gains i (pos 0)) ≤ largest - 1
 
 -- How many students besides s the matching k moves
 abbrev pub movedBesides : ℕ → List ℕ → List ℕ → ℕ → ℕ
-movedBesides n m k s = count n (λ i. both (not (eqb i s)) (not (eqb (byte k i) (byte m i))))
+movedBesides n m k s = count n (λ i. both (not (eqb i s)) (not (eqb (womanOf k i) (womanOf m i))))
 
 -- For each pair of m that is not fixed some stable matching without it moves at most g students besides the asking one
 pub record Covers (b m : List ℕ) (g : ℕ) : Type 0 where

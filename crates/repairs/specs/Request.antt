@@ -1,5 +1,5 @@
--- The check of a request for a repair: rules 8 to 10 on the matching, then 13, 11, 12 on the request, then 14 on the two result buffers. A request
--- is two bytes, student then mentor. Assumes nothing.
+-- The check of a request for a repair: rules 8 to 10 on the matching, then 13, 11, 12 on the request, then 14 on the
+-- two result buffers. A request is a row of two entries, student then mentor. Assumes nothing.
 use Prim.Native.Nat.{ℕ}
 use mathlib.Core.List.{List}
 use mathlib.Core.Bool.{not}
@@ -7,16 +7,23 @@ use lib.ListN.{length}
 use lib.Dec.{ltb, leb, eqb}
 use Rattle.laws.specs.Choice.{either}
 use Rattle.format.specs.Verdict.{Verdict, fine, rule, andThen}
-use Rattle.format.specs.Format.{byte, people}
-use Rattle.matchings.specs.Matching.{checkMatching}
+use Rattle.format.specs.Format.{people, entryIn}
+use Rattle.matchings.specs.Matching.{checkMatching, womanOf}
 
--- The rules that follow those on the matching m of n bytes. The matching goes to a buffer of `room` bytes, the places gained to one of
--- `gainsRoom` entries
+-- The student and the mentor of a request
+abbrev pub askingMan : List ℕ → ℕ
+askingMan q = entryIn q 0
+
+abbrev pub askingWoman : List ℕ → ℕ
+askingWoman q = entryIn q 1
+
+-- The rules that follow those on the matching m of n students. The matching goes to a buffer of `room` bytes, the
+-- places gained to one of `gainsRoom` entries
 unfoldable pub checkPair : ℕ → List ℕ → List ℕ → ℕ → ℕ → Verdict
 checkPair n m q room gainsRoom =
     rule (not (eqb (length q) 2)) 13 0
-    (rule (either (leb n (byte q 0)) (leb n (byte q 1))) 11 0
-    (rule (not (eqb (byte m (byte q 0)) (byte q 1))) 12 0
+    (rule (either (leb n (askingMan q)) (leb n (askingWoman q))) 11 0
+    (rule (not (eqb (womanOf m (askingMan q)) (askingWoman q))) 12 0
     (rule (either (ltb room n) (ltb gainsRoom n)) 14 0 fine)))
 
 -- The verdict on a request

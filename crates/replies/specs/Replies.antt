@@ -1,12 +1,11 @@
 -- The reply of every call: 0 and the result, or the number of the broken rule with its places. Assumes nothing.
-use Prim.Native.Nat.{ℕ, _<_}
+use Prim.Native.Nat.{ℕ}
 use mathlib.Core.Path.{_≡_}
-use mathlib.Core.List.{List}
-use borrow.Author.Tests.{lt-ltb}
-use lib.Dec.{ltb}
-use Rattle.format.specs.Verdict.{Verdict, fine, refused, rule}
-use Rattle.format.specs.Format.{largest}
-use Rattle.format.specs.Write.{checkWrite}
+use mathlib.Core.Bool.{Bool}
+use Rattle.laws.specs.Choice.{pick}
+use Rattle.format.specs.Verdict.{Verdict, refused}
+use Rattle.format.specs.Outcome.{Outcome, gives, refusal, after}
+use Rattle.repairs.specs.Repair.{RepairAnswer, up, down, fixed}
 use Rattle.replies.specs.declared.reply.Reply.{Reply}
 
 -- Nothing is refused: a place and a value as the call says
@@ -21,16 +20,32 @@ lettered letter distance = record { number = 0; place = 0; second = 0; letter = 
 abbrev pub denied : ℕ → ℕ → ℕ → Reply
 denied number place second = record { number = number; place = place; second = second; letter = 0; value = 0 }
 
+-- The reply for an answer: the one for its value, or the refusal
+abbrev pub replyBy : {A : Type 0} → (A → Reply) → Outcome A → Reply
+replyBy granting (gives value) = granting value
+replyBy granting (refusal number place second) = denied number place second
+
+-- A number
+abbrev pub numberReply : Outcome ℕ → Reply
+numberReply answer = replyBy (granted 0) answer
+
+-- Yes or no: 1 or 0
+abbrev pub yesNoReply : Outcome Bool → Reply
+yesNoReply answer = replyBy (λ yes. granted 0 (pick yes 1 0)) answer
+
+-- A repair: 'U', 'D' or 'F' and the distance, 0 for 'F'
+abbrev pub letterFor : RepairAnswer → Reply
+letterFor (up distance) = lettered 85 distance
+letterFor (down distance) = lettered 68 distance
+letterFor fixed = lettered 70 0
+
+abbrev pub letterReply : Outcome RepairAnswer → Reply
+letterReply answer = replyBy letterFor answer
+
 -- The reply for a verdict: where nothing is refused, a place and a value
 abbrev pub replyFor : Verdict → ℕ → ℕ → Reply
-replyFor fine place value = granted place value
-replyFor (refused number place second) p v = denied number place second
-
--- The verdict on a size: rule 3
-abbrev pub checkSize : ℕ → Verdict
-checkSize n = rule (ltb largest n) 3 1 fine
+replyFor v place value = replyBy (granted place) (after v value)
 
 -- a refusal's reply does not depend on the value
-pub crowd-reply : (n : ℕ) (l : List ℕ) (room v w : ℕ) → largest < n → replyFor (checkWrite n l room) 0 v ≡ replyFor (checkWrite n l room) 0 w
-unfolding checkWrite
-crowd-reply n l room v w h = rw (lt-ltb largest n h)
+pub refused-reply : {v : Verdict} {number place second : ℕ} → v ≡ refused number place second → (p x q y : ℕ) → replyFor v p x ≡ replyFor v q y
+refused-reply e p x q y = rw e

@@ -3,7 +3,6 @@ mod replies;
 mod reply;
 
 pub use replies::answer_reply;
-pub use replies::bytes_reply;
 pub use replies::count_reply;
 pub use replies::grade_reply;
 pub use replies::precedence_reply;

@@ -1,21 +1,18 @@
 // The answers of the crates below as replies.
 use crate::reply::Reply;
 use format::Checked;
+use format::Counted;
 use format::Refusal;
 use repairs::Answer;
 use repairs::Graded;
-use rotations::Listed;
 use rotations::Precedence;
-use sheets::Written;
 ghost use mathlib.Core.Path.{_≡_};
+ghost use Rattle.format.specs.Outcome.{countOutcome};
 ghost use Rattle.format.specs.Verdict.{verdictOf};
-ghost use Rattle.repairs.specs.Grade.{replyOf as gradeIn};
-ghost use Rattle.repairs.specs.Repair.{replyOf as answerIn};
-ghost use Rattle.rotations.specs.Precedence.{answerOf as precedenceIn};
-ghost use Rattle.rotations.specs.RotationList.{replyOf as countIn};
-ghost use Rattle.sheets.specs.Reply.{replyOf as bytesIn};
-ghost use Rattle.replies.specs.Replies.{granted, denied, lettered, replyFor};
-ghost use Rattle.replies.specs.Answers.{answerReply, gradeReply, countReply, precedenceReply, bytesReply};
+ghost use Rattle.repairs.specs.Grade.{gradeOutcome};
+ghost use Rattle.repairs.specs.Repair.{repairOutcome};
+ghost use Rattle.rotations.specs.Precedence.{precedenceOutcome};
+ghost use Rattle.replies.specs.Replies.{granted, denied, lettered, numberReply, yesNoReply, letterReply, replyFor};
 
 // Nothing is refused.
 fn granted_reply(place: usize, value: usize) -> Reply
@@ -55,7 +52,7 @@ pub fn verdict_reply(checked: Checked, place: usize, value: usize) -> Reply
 
 // The reply for a repair: the letter and the distance.
 pub fn answer_reply(answer: Answer) -> Reply
-    ensures { λ r. ⌜ r ≡ answerReply (answerIn answer) ⌝ }
+    ensures { λ r. ⌜ r ≡ letterReply (repairOutcome answer) ⌝ }
 {
     match answer {
         Answer::Up(repair) => letter_reply(b'U', repair.distance),
@@ -67,7 +64,7 @@ pub fn answer_reply(answer: Answer) -> Reply
 
 // The reply for a grade.
 pub fn grade_reply(graded: Graded) -> Reply
-    ensures { λ r. ⌜ r ≡ gradeReply (gradeIn graded) ⌝ }
+    ensures { λ r. ⌜ r ≡ numberReply (gradeOutcome graded) ⌝ }
 {
     match graded {
         Graded::Grade(grade) => granted_reply(0, grade),
@@ -75,34 +72,24 @@ pub fn grade_reply(graded: Graded) -> Reply
     }
 }
 
-// The reply for a number of rotations.
-pub fn count_reply(listed: Listed) -> Reply
-    ensures { λ r. ⌜ r ≡ countReply (countIn listed) ⌝ }
+// The reply for a number, of rotations or of bytes.
+pub fn count_reply(counted: Counted) -> Reply
+    ensures { λ r. ⌜ r ≡ numberReply (countOutcome counted) ⌝ }
 {
-    match listed {
-        Listed::Count(count) => granted_reply(0, count),
-        Listed::Refused(refusal) => denied_reply(refusal),
+    match counted {
+        Counted::Count(count) => granted_reply(0, count),
+        Counted::Refused(refusal) => denied_reply(refusal),
     }
 }
 
 // The reply for the order of two rotations: 1 for yes.
 pub fn precedence_reply(precedence: Precedence) -> Reply
-    ensures { λ r. ⌜ r ≡ precedenceReply (precedenceIn precedence) ⌝ }
+    ensures { λ r. ⌜ r ≡ yesNoReply (precedenceOutcome precedence) ⌝ }
 {
     match precedence {
         Precedence::Yes => granted_reply(0, 1),
         Precedence::No => granted_reply(0, 0),
         Precedence::Refused(refusal) => denied_reply(refusal),
-    }
-}
-
-// The reply for a sheet: its number of bytes.
-pub fn bytes_reply(written: Written) -> Reply
-    ensures { λ r. ⌜ r ≡ bytesReply (bytesIn written) ⌝ }
-{
-    match written {
-        Written::Bytes(count) => granted_reply(0, count),
-        Written::Refused(refusal) => denied_reply(refusal),
     }
 }
 

@@ -1,2 +1,5 @@
--- One rotation as numbers: what the contracts and proofs cite. Assumes nothing.
+-- One rotation in a list of numbers, and its elimination: what the contracts cite. Laws has what the proofs cite.
+-- Assumes nothing.
+pub mod Written
+pub mod Elimination
 pub mod Laws

@@ -1,18 +1,19 @@
-// One rotation written into a list of numbers, and its elimination: its number of pairs stands at index `at`, then man and woman of each
-// pair, from its lowest man on.
-use proposals::entry;
-use proposals::wide;
+// One rotation written into a list of numbers, and its elimination: its number of pairs stands at index `at`, then man
+// and woman of each pair, from its lowest man on.
 use rotation_search::follower;
+use tables::entry;
+use tables::list_at;
+use tables::wide;
 ghost use mathlib.Core.Path.{_≡_};
 ghost use Prim.Native.Nat.{_+_, _*_, _≤_, _<_};
 ghost use lib.ListN.{length};
+ghost use Rattle.tables.specs.Lists.{Tables, tables, market, Sound, Sized};
+ghost use Rattle.laws.specs.Moment.{now₀, now₁, vec₀, vec₁};
 ghost use Rattle.laws.specs.Values.{vec};
 ghost use Rattle.stable_theory.specs.Rotations.Numbering.{lowest, rotationAt};
-ghost use Rattle.proposals.specs.Lists.{Tables, Sized, marketOf};
-ghost use Rattle.rotation_search.specs.Laws.Pointers.{State};
-ghost use Rattle.rotation_elimination.specs.Laws.Written.{around, rotationIn};
-ghost use Rattle.rotation_elimination.specs.Laws.EliminateCode.{Eliminable, Eliminating};
-ghost use Rattle.rotation_elimination.specs.Laws.WriteCode.{WroteCycle};
+ghost use Rattle.rotation_search.specs.Pointers.{State};
+ghost use Rattle.rotation_elimination.specs.Written.{around, rotationIn, WroteCycle};
+ghost use Rattle.rotation_elimination.specs.Elimination.{Eliminable, Eliminating};
 
 // Number k of a cycle of c pairs, in which number c is number 0 again.
 fn round(c: usize, k: usize) -> usize
@@ -33,7 +34,8 @@ pub fn eliminate<'a>(
     t: &mut [u16],
 )
     requires { ⌜ Eliminable a b (now pranks) (now rranks) (now list) at (now p) (now t) ⌝ }
-    ensures { λ _. ⌜ Eliminating a b (now (pranks .entry)) (now (rranks .entry)) (rotationIn (now (list .entry)) at) (now (p .entry)) (now (t .entry)) (vec (now (list .entry)) at) (now (p .exit)) (now (t .exit)) ⌝ }
+    ensures { λ _. ⌜ Eliminating a b (now₀ pranks) (now₀ rranks) (rotationIn (now₀ list) at) (now₀ p) (now₀ t)
+        (vec₀ list at) (now₁ p) (now₁ t) ⌝ }
 {
     let pairs = wide(list[at]);
     let mut k = 0;
@@ -46,13 +48,12 @@ pub fn eliminate<'a>(
     }
 }
 
-// Writes the rotation from proposer x on, the lowest on a cycle of followers: goes once round the cycle. The answer is its number of pairs.
+// Writes the rotation from proposer x on, the lowest on a cycle of followers: goes once round the cycle. The answer is
+// its number of pairs.
 pub fn write_cycle(
     a: usize,
     b: usize,
-    plens: &[u16],
     plists: &[u16],
-    rlens: &[u16],
     rlists: &[u16],
     ranks: &[u16],
     p: &[u16],
@@ -62,21 +63,23 @@ pub fn write_cycle(
     at: usize,
     x: usize,
 ) -> usize
-    requires { ⌜ Tables a b (now plens) (now plists) (now rlens) (now rlists) (now ranks) ⌝ }
-    requires { ⌜ Sized a b (now p) (now t) ⌝ }
-    requires { ⌜ (length (now next) ≡ a) × (x < a) × (a < 65536) ⌝ }
-    requires { ⌜ State (marketOf a b (now plens) (now plists) (now rlens) (now rlists)) (vec (now p)) (vec (now t)) (vec (now next)) ⌝ }
-    requires { ⌜ x ≡ lowest (marketOf a b (now plens) (now plists) (now rlens) (now rlists)) (vec (now p)) ⌝ }
-    requires { ⌜ at + 1 + 2 * rotationAt (marketOf a b (now plens) (now plists) (now rlens) (now rlists)) (vec (now p)) x .pairs ≤ length (now list) ⌝ }
-    ensures { λ r. ⌜ WroteCycle (marketOf a b (now (plens .entry)) (now (plists .entry)) (now (rlens .entry)) (now (rlists .entry))) (vec (now (p .entry))) (vec (now (t .entry))) x (vec (now (next .exit))) (now (list .entry)) (now (list .exit)) at r ⌝ }
+    ghost { Tables }
+    requires { λ K. ⌜ tables a b plists rlists ranks ≡ K ⌝ }
+    requires { λ K. ⌜ Sound K ⌝ }
+    requires { λ _. ⌜ Sized a b (now p) (now t) ⌝ }
+    requires { λ _. ⌜ (length (now next) ≡ a) × (x < a) × (a < 65536) ⌝ }
+    requires { λ K. ⌜ State (market K) (vec (now p)) (vec (now t)) (vec (now next)) ⌝ }
+    requires { λ K. ⌜ x ≡ lowest (market K) (vec (now p)) ⌝ }
+    requires { λ K. ⌜ at + 1 + 2 * rotationAt (market K) (vec (now p)) x .pairs ≤ length (now list) ⌝ }
+    ensures { λ K r. ⌜ WroteCycle (market K) (vec₀ p) (vec₀ t) x (vec₁ next) (now₀ list) (now₁ list) at r ⌝ }
 {
     let mut i = x;
     let mut c: usize = 0;
     loop {
-        let w = entry(plists, b, i, wide(p[i]));
+        let w = list_at(plists, b, i, wide(p[i]));
         list[at + 1 + 2 * c] = i as u16;
         list[at + 2 + 2 * c] = w as u16;
-        i = follower(a, b, plens, plists, rlens, rlists, ranks, p, t, next, i);
+        i = follower(a, b, plists, rlists, ranks, p, t, next, i);
         c += 1;
         if i == x {
             list[at] = c as u16;

@@ -1,98 +1,80 @@
-// The list of rotations: each by its number of pairs and then man and woman of each pair, from its lowest man, end to end in order of number.
+// The list of rotations: each by its number of pairs and then man and woman of each pair, from its lowest man, end to
+// end in order of number.
+use book::count_after;
+use book::put_number;
 use book::refuse;
 use format::Checked;
+use format::Counted;
+use format::Instance;
 use record::load;
 use rotation_numbering::ROOM;
 use rotation_numbering::number_all;
-use rotations::Listed;
 ghost use mathlib.Core.Path.{_≡_};
 ghost use mathlib.Core.List.{_++_};
 ghost use Prim.Native.Nat.{ℕ, _≤_, _<_};
 ghost use lib.ListN.{length, take, drop};
+ghost use Rattle.laws.specs.Moment.{now₀, now₁};
+ghost use Rattle.format.specs.Record.{Record, lent};
+ghost use Rattle.instances.specs.Usable.{Usable, marketIn};
 ghost use Rattle.laws.specs.Values.{vec};
 ghost use Rattle.stable_theory.specs.Rotations.Numbering.{total};
-ghost use Rattle.format.specs.Record.{recordOf};
-ghost use Rattle.format.specs.Verdict.{verdictOf};
-ghost use Rattle.extremes.specs.Usable.{Usable, marketIn};
-ghost use Rattle.matchings.specs.Extreme.{filled};
-ghost use Rattle.rotations.specs.RotationList.{rotationCount, listBytes, checkList, replyOf, counting};
+ghost use Rattle.format.specs.Outcome.{countOutcome};
+ghost use Rattle.format.specs.Format.{largest};
+ghost use Rattle.rotations.specs.RotationList.{listReply, listBuffer};
 
-// Writes the list of rotations of a book to the front of `out`. A refusal leaves `out` as it was, and a success leaves what is past the list.
-pub fn list(book: &[u8], out: &mut [u8]) -> Listed
-    ensures reply { λ r. ⌜ replyOf r ≡ counting (checkList (now (book .entry)) (length (now (out .entry)))) (rotationCount (now (book .entry))) ⌝ }
-    ensures bytes { λ _. ⌜ now (out .exit) ≡ filled (checkList (now (book .entry)) (length (now (out .entry)))) (length (listBytes (now (book .entry)))) (listBytes (now (book .entry))) (now (out .entry)) ⌝ }
+// Writes the list of rotations of a book to the front of `out`. A refusal leaves `out` as it was, and a success
+// leaves what is past the list.
+pub fn list(book: &[u8], out: &mut [u8]) -> Counted
+    ensures reply { λ r. ⌜ countOutcome r ≡ listReply (now₀ book) (length (now₀ out)) ⌝ }
+    ensures bytes { λ _. ⌜ now₁ out ≡ listBuffer (now₀ book) (now₀ out) ⌝ }
 {
-    let loaded = load(book);
-    let answer = loaded.checked;
+    let mut mlists = [0u16; Instance::LISTS];
+    let mut mranks = [0u16; Instance::RANKS];
+    let mut wlists = [0u16; Instance::LISTS];
+    let mut wranks = [0u16; Instance::RANKS];
+    let instance = load(book, &mut mlists, &mut mranks, &mut wlists, &mut wranks);
+    let answer = instance.checked;
     let Checked::Fine = answer else {
-        return reply(answer, 0);
+        return count_after(answer, 0);
     };
-    let n = loaded.instance.n;
+    let n = instance.n;
     let mut numbers = [0u16; ROOM];
-    let extent = number_all(
-        n,
-        &loaded.instance.man_lengths,
-        &loaded.instance.man_lists,
-        &loaded.instance.man_ranks,
-        &loaded.instance.woman_lengths,
-        &loaded.instance.woman_lists,
-        &loaded.instance.woman_ranks,
-        &mut numbers[..],
-    );
+    let extent = number_all(n, &mlists, &mranks, &wlists, &wranks, &mut numbers[..]);
     let end = extent.end;
     if out.len() < end {
-        return reply(refuse(14, 0), 0);
+        return count_after(refuse(14, 0), 0);
     }
     copy(&numbers, end, out);
-    Listed::Count(extent.count)
-}
-
-// The reply after a check: so many, where nothing is refused.
-pub fn reply(checked: Checked, count: usize) -> Listed
-    ensures { λ r. ⌜ replyOf r ≡ counting (verdictOf checked) count ⌝ }
-{
-    match checked {
-        Checked::Fine => Listed::Count(count),
-        Checked::Refused(refusal) => Listed::Refused(refusal),
-    }
+    Counted::Count(extent.count)
 }
 
 // How many rotations the market of a record has, whose tables are lent.
 pub fn count<'a>(
     n: usize,
-    mlens: &'a [u16],
     mlists: &'a [u16],
     mranks: &'a [u16],
-    wlens: &'a [u16],
     wlists: &'a [u16],
     wranks: &'a [u16],
 ) -> usize
-    requires { ⌜ Usable (recordOf n (now mlens) (now mlists) (now mranks) (now wlens) (now wlists) (now wranks)) ⌝ }
-    ensures { λ r. ⌜ r ≡ total (marketIn (recordOf n (now (mlens .entry)) (now (mlists .entry)) (now (mranks .entry)) (now (wlens .entry)) (now (wlists .entry)) (now (wranks .entry)))) ⌝ }
+    ghost { Record }
+    requires { λ R. ⌜ lent n mlists mranks wlists wranks ≡ R ⌝ }
+    requires { λ R. ⌜ Usable R ⌝ }
+    ensures { λ R r. ⌜ r ≡ total (marketIn R) ⌝ }
 {
     let mut numbers = [0u16; ROOM];
-    let extent = number_all(
-        n,
-        mlens,
-        mlists,
-        mranks,
-        wlens,
-        wlists,
-        wranks,
-        &mut numbers[..],
-    );
+    let extent = number_all(n, mlists, mranks, wlists, wranks, &mut numbers[..]);
     extent.count
 }
 
-// Writes the first `end` numbers, which fit a byte, to the front of `out`.
+// Writes the first `end` numbers as entries to the front of `out`.
 fn copy(numbers: &[u16], end: usize, out: &mut [u8])
     requires { ⌜ (end ≤ length (now numbers)) × (end ≤ length (now out)) ⌝ }
-    requires { ⌜ ((v : ℕ) → v < end → vec (now numbers) v < 256) ⌝ }
-    ensures { λ _. ⌜ now (out .exit) ≡ take end (now (numbers .entry)) ++ drop end (now (out .entry)) ⌝ }
+    requires { ⌜ ((v : ℕ) → v < end → vec (now numbers) v ≤ largest) ⌝ }
+    ensures { λ _. ⌜ now₁ out ≡ take end (now₀ numbers) ++ drop end (now₀ out) ⌝ }
 {
     let mut i = 0;
     while i < end {
-        out[i] = numbers[i] as u8;
+        put_number(out, i, numbers[i]);
         i += 1;
     }
 }

@@ -1,2 +1,5 @@
--- The search for a cycle of followers: what its contracts and proofs cite. Assumes nothing.
+-- The search for a cycle of followers: its pointers and its answers, which the contracts cite. Laws has what the
+-- proofs cite. Assumes nothing.
+pub mod Pointers
+pub mod Search
 pub mod Laws

@@ -1,17 +1,18 @@
-// The lowest proposer on a cycle of followers: walks from proposers 0, 1, … on, each of which marks whom it meets and stops at a mark.
-// A walk that stops at its own mark has gone round a cycle.
+// The lowest proposer on a cycle of followers: walks from proposers 0, 1, … on, each of which marks whom it meets and
+// stops at a mark. A walk that stops at its own mark has gone round a cycle.
 use crate::next::follower;
-use proposals::wide;
+use tables::wide;
 ghost use mathlib.Core.Path.{_≡_};
 ghost use mathlib.Core.Bool.{true};
 ghost use Prim.Native.Nat.{ℕ, _+_, _<_, min};
 ghost use lib.ListN.{length};
+ghost use Rattle.tables.specs.Lists.{Tables, tables, market, Sound, Sized};
+ghost use Rattle.laws.specs.Moment.{now₀, now₁, vec₀, vec₁};
 ghost use Rattle.laws.specs.Values.{vec};
 ghost use Rattle.laws.specs.Cycle.{returns};
 ghost use Rattle.stable_theory.specs.Rotations.Numbering.{followers};
-ghost use Rattle.proposals.specs.Lists.{Tables, Sized, marketOf};
-ghost use Rattle.rotation_search.specs.Laws.Pointers.{State};
-ghost use Rattle.rotation_search.specs.Laws.CycleCode.{WalkedTo, LowestOf, SearchedTo, LowestIs};
+ghost use Rattle.rotation_search.specs.Pointers.{State};
+ghost use Rattle.rotation_search.specs.Search.{WalkedTo, LowestOf, SearchedTo, LowestIs};
 
 // The lower of two numbers.
 fn lower(x: usize, y: usize) -> usize
@@ -22,7 +23,7 @@ fn lower(x: usize, y: usize) -> usize
 
 // Takes all marks away.
 fn clear(marks: &mut [u16])
-    ensures { λ _. ⌜ ((v : ℕ) → vec (now (marks .exit)) v ≡ 0) ⌝ }
+    ensures { λ _. ⌜ ((v : ℕ) → vec₁ marks v ≡ 0) ⌝ }
 {
     let mut v = 0;
     while v < marks.len() {
@@ -35,9 +36,7 @@ fn clear(marks: &mut [u16])
 fn walk(
     a: usize,
     b: usize,
-    plens: &[u16],
     plists: &[u16],
-    rlens: &[u16],
     rlists: &[u16],
     ranks: &[u16],
     p: &[u16],
@@ -46,12 +45,14 @@ fn walk(
     marks: &mut [u16],
     x: usize,
 ) -> usize
-    requires { ⌜ Tables a b (now plens) (now plists) (now rlens) (now rlists) (now ranks) ⌝ }
-    requires { ⌜ Sized a b (now p) (now t) ⌝ }
-    requires { ⌜ (length (now next) ≡ a) × (length (now marks) ≡ a) × (x < a) × (a < 65536) ⌝ }
-    requires { ⌜ State (marketOf a b (now plens) (now plists) (now rlens) (now rlists)) (vec (now p)) (vec (now t)) (vec (now next)) ⌝ }
-    requires { ⌜ ((v : ℕ) → vec (now marks) v ≡ x + 1 → ⊥) ⌝ }
-    ensures { λ r. ⌜ WalkedTo (marketOf a b (now (plens .entry)) (now (plists .entry)) (now (rlens .entry)) (now (rlists .entry))) (vec (now (p .entry))) (vec (now (t .entry))) x (vec (now (next .exit))) (now (marks .entry)) (now (marks .exit)) r ⌝ }
+    ghost { Tables }
+    requires { λ K. ⌜ tables a b plists rlists ranks ≡ K ⌝ }
+    requires { λ K. ⌜ Sound K ⌝ }
+    requires { λ _. ⌜ Sized a b (now p) (now t) ⌝ }
+    requires { λ _. ⌜ (length (now next) ≡ a) × (length (now marks) ≡ a) × (x < a) × (a < 65536) ⌝ }
+    requires { λ K. ⌜ State (market K) (vec (now p)) (vec (now t)) (vec (now next)) ⌝ }
+    requires { λ _. ⌜ ((v : ℕ) → vec (now marks) v ≡ x + 1 → ⊥) ⌝ }
+    ensures { λ K r. ⌜ WalkedTo (market K) (vec₀ p) (vec₀ t) x (vec₁ next) (now₀ marks) (now₁ marks) r ⌝ }
 {
     let mark = (x + 1) as u16;
     let mut y = x;
@@ -60,7 +61,7 @@ fn walk(
             return y;
         }
         marks[y] = mark;
-        y = follower(a, b, plens, plists, rlens, rlists, ranks, p, t, next, y);
+        y = follower(a, b, plists, rlists, ranks, p, t, next, y);
     }
     y
 }
@@ -69,9 +70,7 @@ fn walk(
 fn cycle_low(
     a: usize,
     b: usize,
-    plens: &[u16],
     plists: &[u16],
-    rlens: &[u16],
     rlists: &[u16],
     ranks: &[u16],
     p: &[u16],
@@ -79,19 +78,21 @@ fn cycle_low(
     next: &mut [u16],
     y: usize,
 ) -> usize
-    requires { ⌜ Tables a b (now plens) (now plists) (now rlens) (now rlists) (now ranks) ⌝ }
-    requires { ⌜ Sized a b (now p) (now t) ⌝ }
-    requires { ⌜ (length (now next) ≡ a) × (y < a) ⌝ }
-    requires { ⌜ State (marketOf a b (now plens) (now plists) (now rlens) (now rlists)) (vec (now p)) (vec (now t)) (vec (now next)) ⌝ }
-    requires { ⌜ returns (followers (marketOf a b (now plens) (now plists) (now rlens) (now rlists)) (vec (now p))) a y ≡ true ⌝ }
-    ensures { λ r. ⌜ LowestOf (marketOf a b (now (plens .entry)) (now (plists .entry)) (now (rlens .entry)) (now (rlists .entry))) (vec (now (p .entry))) (vec (now (t .entry))) (vec (now (next .exit))) y r ⌝ }
+    ghost { Tables }
+    requires { λ K. ⌜ tables a b plists rlists ranks ≡ K ⌝ }
+    requires { λ K. ⌜ Sound K ⌝ }
+    requires { λ _. ⌜ Sized a b (now p) (now t) ⌝ }
+    requires { λ _. ⌜ (length (now next) ≡ a) × (y < a) ⌝ }
+    requires { λ K. ⌜ State (market K) (vec (now p)) (vec (now t)) (vec (now next)) ⌝ }
+    requires { λ K. ⌜ returns (followers (market K) (vec (now p))) a y ≡ true ⌝ }
+    ensures { λ K r. ⌜ LowestOf (market K) (vec₀ p) (vec₀ t) (vec₁ next) y r ⌝ }
 {
     let mut low = y;
     let mut s: usize = 1;
-    let mut z = follower(a, b, plens, plists, rlens, rlists, ranks, p, t, next, y);
+    let mut z = follower(a, b, plists, rlists, ranks, p, t, next, y);
     while z != y {
         low = lower(low, z);
-        z = follower(a, b, plens, plists, rlens, rlists, ranks, p, t, next, z);
+        z = follower(a, b, plists, rlists, ranks, p, t, next, z);
         s += 1;
     }
     low
@@ -101,9 +102,7 @@ fn cycle_low(
 fn search_from(
     a: usize,
     b: usize,
-    plens: &[u16],
     plists: &[u16],
-    rlens: &[u16],
     rlists: &[u16],
     ranks: &[u16],
     p: &[u16],
@@ -113,37 +112,26 @@ fn search_from(
     x: usize,
     low: usize,
 ) -> usize
-    requires { ⌜ Tables a b (now plens) (now plists) (now rlens) (now rlists) (now ranks) ⌝ }
-    requires { ⌜ Sized a b (now p) (now t) ⌝ }
-    requires { ⌜ (length (now next) ≡ a) × (x < a) × (a < 65536) ⌝ }
-    requires { ⌜ State (marketOf a b (now plens) (now plists) (now rlens) (now rlists)) (vec (now p)) (vec (now t)) (vec (now next)) ⌝ }
-    requires { ⌜ SearchedTo (marketOf a b (now plens) (now plists) (now rlens) (now rlists)) (vec (now p)) (vec (now t)) x low (vec (now next)) (now marks) ⌝ }
-    ensures { λ r. ⌜ SearchedTo (marketOf a b (now (plens .entry)) (now (plists .entry)) (now (rlens .entry)) (now (rlists .entry))) (vec (now (p .entry))) (vec (now (t .entry))) (x + 1) r (vec (now (next .exit))) (now (marks .exit)) ⌝ }
+    ghost { Tables }
+    requires { λ K. ⌜ tables a b plists rlists ranks ≡ K ⌝ }
+    requires { λ K. ⌜ Sound K ⌝ }
+    requires { λ _. ⌜ Sized a b (now p) (now t) ⌝ }
+    requires { λ _. ⌜ (length (now next) ≡ a) × (x < a) × (a < 65536) ⌝ }
+    requires { λ K. ⌜ State (market K) (vec (now p)) (vec (now t)) (vec (now next)) ⌝ }
+    requires { λ K. ⌜ SearchedTo (market K) (vec (now p)) (vec (now t)) x low (vec (now next)) (now marks) ⌝ }
+    ensures { λ K r. ⌜ SearchedTo (market K) (vec₀ p) (vec₀ t) (x + 1) r (vec₁ next) (now₁ marks) ⌝ }
 {
     if marks[x] != 0 {
         return low;
     }
-    let y = walk(
-        a,
-        b,
-        plens,
-        plists,
-        rlens,
-        rlists,
-        ranks,
-        p,
-        t,
-        next,
-        marks,
-        x,
-    );
+    let y = walk(a, b, plists, rlists, ranks, p, t, next, marks, x);
     if a <= y {
         return low;
     }
     if wide(marks[y]) != x + 1 {
         return low;
     }
-    let less = cycle_low(a, b, plens, plists, rlens, rlists, ranks, p, t, next, y);
+    let less = cycle_low(a, b, plists, rlists, ranks, p, t, next, y);
     lower(low, less)
 }
 
@@ -151,9 +139,7 @@ fn search_from(
 pub fn lowest(
     a: usize,
     b: usize,
-    plens: &[u16],
     plists: &[u16],
-    rlens: &[u16],
     rlists: &[u16],
     ranks: &[u16],
     p: &[u16],
@@ -161,31 +147,19 @@ pub fn lowest(
     next: &mut [u16],
     marks: &mut [u16],
 ) -> usize
-    requires { ⌜ Tables a b (now plens) (now plists) (now rlens) (now rlists) (now ranks) ⌝ }
-    requires { ⌜ Sized a b (now p) (now t) ⌝ }
-    requires { ⌜ (length (now next) ≡ a) × (length (now marks) ≡ a) × (a < 65536) ⌝ }
-    requires { ⌜ State (marketOf a b (now plens) (now plists) (now rlens) (now rlists)) (vec (now p)) (vec (now t)) (vec (now next)) ⌝ }
-    ensures { λ r. ⌜ LowestIs (marketOf a b (now (plens .entry)) (now (plists .entry)) (now (rlens .entry)) (now (rlists .entry))) (vec (now (p .entry))) (vec (now (t .entry))) (vec (now (next .exit))) r ⌝ }
+    ghost { Tables }
+    requires { λ K. ⌜ tables a b plists rlists ranks ≡ K ⌝ }
+    requires { λ K. ⌜ Sound K ⌝ }
+    requires { λ _. ⌜ Sized a b (now p) (now t) ⌝ }
+    requires { λ _. ⌜ (length (now next) ≡ a) × (length (now marks) ≡ a) × (a < 65536) ⌝ }
+    requires { λ K. ⌜ State (market K) (vec (now p)) (vec (now t)) (vec (now next)) ⌝ }
+    ensures { λ K r. ⌜ LowestIs (market K) (vec₀ p) (vec₀ t) (vec₁ next) r ⌝ }
 {
     clear(marks);
     let mut low = a;
     let mut x = 0;
     while x < low {
-        low = search_from(
-            a,
-            b,
-            plens,
-            plists,
-            rlens,
-            rlists,
-            ranks,
-            p,
-            t,
-            next,
-            marks,
-            x,
-            low,
-        );
+        low = search_from(a, b, plists, rlists, ranks, p, t, next, marks, x, low);
         x += 1;
     }
     low

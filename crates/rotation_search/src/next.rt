@@ -1,35 +1,38 @@
 // The next receiver of a proposer, by pointers that only advance.
-use proposals::entry;
-use proposals::wide;
+use tables::entry;
+use tables::list_at;
+use tables::list_len;
+use tables::wide;
 ghost use mathlib.Core.Path.{_≡_};
-ghost use Prim.Native.Nat.{_+_, _<_};
+ghost use Prim.Native.Nat.{_<_};
 ghost use lib.ListN.{length};
+ghost use Rattle.tables.specs.Lists.{Tables, tables, market, Sound, Sized};
+ghost use Rattle.laws.specs.Moment.{vec₀, vec₁};
 ghost use Rattle.laws.specs.Values.{vec};
-ghost use Rattle.proposals.specs.Lists.{Tables, Sized, marketOf};
-ghost use Rattle.rotation_search.specs.Laws.Pointers.{Passed, Stopped, State, FollowerIs};
+ghost use Rattle.rotation_search.specs.Pointers.{NoneWilling, Stopped, State, FollowerIs};
 
 // The first place from `from` on of a receiver who prefers proposer i to whom she has, or the end of his list.
 fn advance(
     a: usize,
     b: usize,
-    plens: &[u16],
     plists: &[u16],
-    rlens: &[u16],
     rlists: &[u16],
     ranks: &[u16],
     t: &[u16],
     i: usize,
     from: usize,
 ) -> usize
-    requires { ⌜ Tables a b (now plens) (now plists) (now rlens) (now rlists) (now ranks) ⌝ }
-    requires { ⌜ (length (now t) ≡ b) × (i < a) × (from < 65536) ⌝ }
-    requires { ⌜ Passed (marketOf a b (now plens) (now plists) (now rlens) (now rlists)) (vec (now t)) i from ⌝ }
-    ensures { λ r. ⌜ Stopped (marketOf a b (now (plens .entry)) (now (plists .entry)) (now (rlens .entry)) (now (rlists .entry))) (vec (now (t .entry))) i r × (r < 65536) ⌝ }
+    ghost { Tables }
+    requires { λ K. ⌜ tables a b plists rlists ranks ≡ K ⌝ }
+    requires { λ K. ⌜ Sound K ⌝ }
+    requires { λ _. ⌜ (length (now t) ≡ b) × (i < a) × (from < 65536) ⌝ }
+    requires { λ K. ⌜ NoneWilling (market K) (vec (now t)) i from ⌝ }
+    ensures { λ K r. ⌜ Stopped (market K) (vec₀ t) i r × (r < 65536) ⌝ }
 {
-    let len = wide(plens[i]);
+    let len = list_len(plists, a, b, i);
     let mut k = from;
     while k < len {
-        let w = entry(plists, b, i, k);
+        let w = list_at(plists, b, i, k);
         if entry(ranks, a, w, i) < wide(t[w]) {
             return k;
         }
@@ -42,9 +45,7 @@ fn advance(
 pub fn follower(
     a: usize,
     b: usize,
-    plens: &[u16],
     plists: &[u16],
-    rlens: &[u16],
     rlists: &[u16],
     ranks: &[u16],
     p: &[u16],
@@ -52,22 +53,24 @@ pub fn follower(
     next: &mut [u16],
     i: usize,
 ) -> usize
-    requires { ⌜ Tables a b (now plens) (now plists) (now rlens) (now rlists) (now ranks) ⌝ }
-    requires { ⌜ Sized a b (now p) (now t) ⌝ }
-    requires { ⌜ (length (now next) ≡ a) × (i < a) ⌝ }
-    requires { ⌜ State (marketOf a b (now plens) (now plists) (now rlens) (now rlists)) (vec (now p)) (vec (now t)) (vec (now next)) ⌝ }
-    ensures { λ r. ⌜ FollowerIs (marketOf a b (now (plens .entry)) (now (plists .entry)) (now (rlens .entry)) (now (rlists .entry))) (vec (now (p .entry))) (vec (now (t .entry))) (vec (now (next .exit))) i r ⌝ }
+    ghost { Tables }
+    requires { λ K. ⌜ tables a b plists rlists ranks ≡ K ⌝ }
+    requires { λ K. ⌜ Sound K ⌝ }
+    requires { λ _. ⌜ Sized a b (now p) (now t) ⌝ }
+    requires { λ _. ⌜ (length (now next) ≡ a) × (i < a) ⌝ }
+    requires { λ K. ⌜ State (market K) (vec (now p)) (vec (now t)) (vec (now next)) ⌝ }
+    ensures { λ K r. ⌜ FollowerIs (market K) (vec₀ p) (vec₀ t) (vec₁ next) i r ⌝ }
 {
     let from = wide(next[i]);
-    let k = advance(a, b, plens, plists, rlens, rlists, ranks, t, i, from);
+    let k = advance(a, b, plists, rlists, ranks, t, i, from);
     next[i] = k as u16;
-    if wide(plens[i]) <= k {
+    if list_len(plists, a, b, i) <= k {
         return a;
     }
-    let w = entry(plists, b, i, k);
+    let w = list_at(plists, b, i, k);
     let place = wide(t[w]);
-    if wide(rlens[w]) <= place {
+    if list_len(rlists, b, a, w) <= place {
         return a;
     }
-    entry(rlists, a, w, place)
+    list_at(rlists, a, w, place)
 }

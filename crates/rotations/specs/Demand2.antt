@@ -1,6 +1,7 @@
--- The second half of demand 2: "the rotations and their order are those of the published theory, and going from a closed set of rotations to
--- its matching and back, or the reverse, returns the start", in the words that the contracts cite. Each proof is a citation of the
--- theory (stable_theory, Rotations.Demand2Theory) at the market of a book, or of ThereAndBack. Assumes nothing.
+-- The second half of demand 2: "the rotations and their order are those of the published theory, and going from a
+-- closed set of rotations to its matching and back, or the reverse, returns the start", in the words that the
+-- contracts cite. Each proof is a citation of the theory (stable_theory, Rotations.Demand2Theory) at the market of a
+-- book, or of ThereAndBack. Assumes nothing.
 use Prim.Native.Nat.{ℕ, _≤_, _<_}
 use mathlib.Core.Path.{_≡_}
 use mathlib.Core.Bool.{true}
@@ -19,7 +20,7 @@ use Rattle.stable_theory.specs.Rotations.Demand2Theory.{numbering, numbering-en
 use Rattle.stable_theory.specs.Rotations.Runs.{Once}
 use Rattle.matchings.specs.BookMarket.{market, market-proper}
 use Rattle.matchings.specs.Matching.{vectorOf, checkMatching}
-use Rattle.matchings.specs.StableVector.{fine-vector}
+use Rattle.matchings.specs.Laws.StableVector.{fine-vector}
 use Rattle.rotations.specs.RotationList.{rotationCount}
 use Rattle.rotations.specs.Precedence.{bookPrecedes}
 use Rattle.rotations.specs.Sets.{member, closedSet, checkSet, setMatching, matchingSet}
@@ -27,7 +28,8 @@ use Rattle.rotations.specs.Laws.SetVerdict.{set-accepted, accepted-set, 
 use Rattle.rotations.specs.Laws.ThereAndBack.{set-member, set-matching-fine, set-there, matching-formed, matching-marks, matching-closed, matching-there}
 
 module _ {b : List ℕ} (W : WellFormed b) where
-  -- the rotations listed are numbered as document 01 says: from the student-best matching on, of those exposed the one that holds the lowest student
+  -- the rotations listed are numbered as document 01 says: from the student-best matching on, of those exposed the
+  -- one that holds the lowest student
   pub listed-canonical : Canonical (market b) (proposer-optimal (market b)) (rotationCount b) (rotation (market b))
   listed-canonical = numbering (market-proper W)
 

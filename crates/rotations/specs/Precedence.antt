@@ -4,7 +4,8 @@ use mathlib.Core.Bool.{Bool, true, false}
 use mathlib.Core.List.{List}
 use lib.Dec.{leb}
 use Rattle.laws.specs.Choice.{either}
-use Rattle.format.specs.Verdict.{Verdict, fine, refused, rule, andThen}
+use Rattle.format.specs.Verdict.{Verdict, fine, rule, andThen}
+use Rattle.format.specs.Outcome.{Outcome, gives, refusal, after}
 use Rattle.format.specs.Check.{checkBook}
 use Rattle.stable_theory.specs.Rotations.Numbering.{rotation}
 use Rattle.stable_theory.specs.Rotations.Subset.{precedes}
@@ -22,18 +23,12 @@ checkNumbers b first second =
 abbrev pub bookPrecedes : List ℕ → ℕ → ℕ → Bool
 bookPrecedes b first second = precedes (market b) (rotation (market b)) first second
 
--- A reply: yes or no, or a refusal
-pub data Answer : Type 0 where
-  says : Bool → Answer
-  refusal : ℕ → ℕ → ℕ → Answer
+-- The answer that the code's enum stands for
+abbrev pub precedenceOutcome : Precedence → Outcome Bool
+precedenceOutcome Yes = gives true
+precedenceOutcome No = gives false
+precedenceOutcome (Refused r) = refusal (r .number) (r .place) (r .second)
 
--- The reply that the code's answer stands for
-abbrev pub answerOf : Precedence → Answer
-answerOf Yes = says true
-answerOf No = says false
-answerOf (Refused r) = refusal (r .number) (r .place) (r .second)
-
--- The reply after a check: yes or no, where nothing is refused
-abbrev pub saying : Verdict → Bool → Answer
-saying fine t = says t
-saying (refused number place second) t = refusal number place second
+-- The reply for two rotation numbers: yes or no
+abbrev pub precedenceReply : List ℕ → ℕ → ℕ → Outcome Bool
+precedenceReply b first second = after (checkNumbers b first second) (bookPrecedes b first second)

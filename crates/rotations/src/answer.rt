@@ -1,11 +1,5 @@
-// What the functions on rotations answer.
+// What the function on the order of rotations answers.
 use format::Refusal;
-
-// How many rotations there are, or the rule that is broken.
-pub enum Listed {
-    Count(usize),
-    Refused(Refusal),
-}
 
 // Whether one rotation precedes another, or the rule that is broken.
 pub enum Precedence {

@@ -1,4 +1,4 @@
-// The matching of a closed set of rotations. A set is one byte, 0 or 1, a rotation.
+// The matching of a closed set of rotations. A set is one mark, 0 or 1, a rotation.
 use book::refuse;
 use closed_subsets::bad_marks;
 use closed_subsets::closes;
@@ -6,79 +6,47 @@ use closed_subsets::set_places;
 use extremes::man_optimal_places;
 use extremes::write_matching;
 use format::Checked;
-use precedence::past;
+use format::Instance;
 use record::load;
 use rotation_numbering::ROOM;
 use rotation_numbering::number_all;
 ghost use mathlib.Core.Path.{_≡_};
-ghost use Prim.Native.Nat.{_<_};
 ghost use lib.ListN.{length};
-ghost use Rattle.format.specs.Format.{people};
+ghost use Rattle.laws.specs.Moment.{now₀, now₁};
 ghost use Rattle.format.specs.Verdict.{verdictOf};
-ghost use Rattle.matchings.specs.Extreme.{filled};
-ghost use Rattle.rotations.specs.Sets.{checkSet, setMatching};
+ghost use Rattle.rotations.specs.Sets.{checkSet, setMatchingBuffer};
 
-// Writes the matching of a closed set to the front of `out`, or says which rule stands against it. A refusal leaves `out` as it was, and a
-// success leaves what is past the n entries.
+// Writes the matching of a closed set to the front of `out`, or says which rule stands against it. A refusal leaves
+// `out` as it was, and a success leaves what is past the n entries.
 pub fn set_to_matching(book: &[u8], set: &[u8], out: &mut [u8]) -> Checked
-    ensures verdict { λ r. ⌜ verdictOf r ≡ checkSet (now (book .entry)) (now (set .entry)) (length (now (out .entry))) ⌝ }
-    ensures bytes { λ _. ⌜ now (out .exit) ≡ filled (checkSet (now (book .entry)) (now (set .entry)) (length (now (out .entry)))) (people (now (book .entry))) (setMatching (now (book .entry)) (now (set .entry))) (now (out .entry)) ⌝ }
+    ensures verdict { λ r. ⌜ verdictOf r ≡ checkSet (now₀ book) (now₀ set) (length (now₀ out)) ⌝ }
+    ensures bytes { λ _. ⌜ now₁ out ≡ setMatchingBuffer (now₀ book) (now₀ set) (now₀ out) ⌝ }
 {
-    let loaded = load(book);
-    let answer = loaded.checked;
+    let mut mlists = [0u16; Instance::LISTS];
+    let mut mranks = [0u16; Instance::RANKS];
+    let mut wlists = [0u16; Instance::LISTS];
+    let mut wranks = [0u16; Instance::RANKS];
+    let instance = load(book, &mut mlists, &mut mranks, &mut wlists, &mut wranks);
+    let answer = instance.checked;
     let Checked::Fine = answer else {
         return answer;
     };
-    let n = loaded.instance.n;
+    let n = instance.n;
     let mut list = [0u16; ROOM];
-    let extent = number_all(
-        n,
-        &loaded.instance.man_lengths,
-        &loaded.instance.man_lists,
-        &loaded.instance.man_ranks,
-        &loaded.instance.woman_lengths,
-        &loaded.instance.woman_lists,
-        &loaded.instance.woman_ranks,
-        &mut list[..],
-    );
+    let extent = number_all(n, &mlists, &mranks, &wlists, &wranks, &mut list[..]);
     let count = extent.count;
     if bad_marks(set, count) {
         return refuse(15, 0);
     }
-    let places = man_optimal_places(
-        n,
-        &loaded.instance.man_lengths,
-        &loaded.instance.man_lists,
-        &loaded.instance.woman_lengths,
-        &loaded.instance.woman_lists,
-        &loaded.instance.woman_ranks,
-    );
-    let men = set_places(
-        n,
-        &loaded.instance.man_ranks,
-        &loaded.instance.woman_ranks,
-        places,
-        &list,
-        set,
-    );
-    let closed = closes(
-        n,
-        &loaded.instance.man_lengths,
-        &loaded.instance.man_lists,
-        &loaded.instance.man_ranks,
-        &loaded.instance.woman_lengths,
-        &loaded.instance.woman_lists,
-        &loaded.instance.woman_ranks,
-        &list,
-        set,
-        men,
-    );
+    let places = man_optimal_places(n, &mlists, &wlists, &wranks);
+    let men = set_places(n, &mranks, &wranks, places, &list, set);
+    let closed = closes(n, &mlists, &mranks, &wlists, &wranks, &list, set, men);
     if !closed {
         return refuse(16, 0);
     }
     if out.len() < n {
         return refuse(14, 0);
     }
-    write_matching(n, &loaded.instance.man_lists, &men, out);
+    write_matching(n, &mlists, &men, out);
     answer
 }

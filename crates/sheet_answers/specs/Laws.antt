@@ -1,4 +1,3 @@
--- From the answers of all pairs to the lines. Assumes nothing.
-pub mod Answered
+-- From the answers for all pairs to the lines. Assumes nothing.
 pub mod Over
 pub mod Short

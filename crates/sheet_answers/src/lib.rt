@@ -1,5 +1,4 @@
-// The sheet of a stable matching, over the record of a book: the answer for each pair, the grade, the lines.
+// The sheet of a stable matching, over the record of a book.
 mod answers;
-mod grade;
 
 pub use answers::put_answers;

@@ -1,74 +1,95 @@
 // The sheet of what was read, a book and a matching.
 use book::book_end;
+use book::count_after;
+use book::refuse;
 use format::Checked;
-use format::Refusal;
+use format::Counted;
+use format::Instance;
 use record::load;
 use sheet_answers::put_answers;
 use sheet_text::put_refused;
 use sheets::LONGEST;
-use sheets::Written;
 use stability::judge;
 ghost use mathlib.Core.Path.{_≡_};
 ghost use Prim.Native.Nat.{_≤_};
 ghost use lib.ListN.{length};
-ghost use Rattle.sheets.specs.Sheet.{sheetOf};
-ghost use Rattle.sheets.specs.Reply.{replyOf, sheetReply, sheetBuffer};
+ghost use Rattle.laws.specs.Moment.{now₀, now₁};
+ghost use Rattle.format.specs.Outcome.{countOutcome};
+ghost use Rattle.format.specs.Record.{Record, lent};
+ghost use Rattle.stability.specs.Judge.{FromBook, EachBook};
+ghost use Rattle.sheets.specs.Longest.{longest};
+ghost use Rattle.sheets.specs.Sheet.{sheetFor, sheetOf};
+ghost use Rattle.sheets.specs.Reply.{sheetReply, sheetBuffer};
 ghost use Rattle.sheet_text.specs.Put.{Put};
 
 // Writes the sheet to the front of `out` and says how many bytes it has, or refuses by 14 where `out` is too short.
 // A refusal leaves `out` as it was, and a success leaves what is past the sheet.
-pub fn write_sheet(input: &[u8], out: &mut [u8]) -> Written
-    ensures reply { λ r. ⌜ replyOf r ≡ sheetReply (now (input .entry)) (length (now (out .entry))) ⌝ }
-    ensures bytes { λ _. ⌜ now (out .exit) ≡ sheetBuffer (now (input .entry)) (now (out .entry)) ⌝ }
+pub fn write_sheet(input: &[u8], out: &mut [u8]) -> Counted
+    ensures reply { λ r. ⌜ countOutcome r ≡ sheetReply (now₀ input) (length (now₀ out)) ⌝ }
+    ensures bytes { λ _. ⌜ now₁ out ≡ sheetBuffer (now₀ input) (now₀ out) ⌝ }
 {
     let mut text = [0u8; LONGEST];
     let len = put_sheet(input, &mut text[..]);
     if out.len() < len {
-        return Written::Refused(Refusal {
-            number: 14,
-            place: 0,
-            second: 0,
-        });
+        return count_after(refuse(14, 0), 0);
     }
     bytes::copy(&text[..len], out);
-    Written::Bytes(len)
+    Counted::Count(len)
 }
 
-// Puts the sheet at the front of `text`. It goes on to repairs only where the check answered stable.
+// Puts the sheet at the front of `text`.
 fn put_sheet(input: &[u8], text: &mut [u8]) -> usize
-    requires { ⌜ 715 ≤ length (now text) ⌝ }
-    ensures { λ r. ⌜ Put (now (text .entry)) 0 (sheetOf (now (input .entry))) (now (text .exit)) r ⌝ }
+    requires { ⌜ longest ≤ length (now text) ⌝ }
+    ensures { λ r. ⌜ Put (now₀ text) 0 (sheetOf (now₀ input)) (now₁ text) r ⌝ }
 {
     let end = book_end(input);
-    let loaded = load(&input[..end]);
-    let read = loaded.checked;
-    let n = loaded.instance.n;
-    let judged = judge(
-        read,
-        n,
-        &loaded.instance.man_lengths,
-        &loaded.instance.man_lists,
-        &loaded.instance.man_ranks,
-        &loaded.instance.woman_lengths,
-        &loaded.instance.woman_lists,
-        &loaded.instance.woman_ranks,
-        &input[end..],
+    let mut mlists = [0u16; Instance::LISTS];
+    let mut mranks = [0u16; Instance::RANKS];
+    let mut wlists = [0u16; Instance::LISTS];
+    let mut wranks = [0u16; Instance::RANKS];
+    let instance = load(
+        &input[..end],
+        &mut mlists,
+        &mut mranks,
+        &mut wlists,
+        &mut wranks,
     );
+    let answer = instance.checked;
+    let n = instance.n;
+    put_judged(
+        answer,
+        n,
+        &mlists,
+        &mranks,
+        &wlists,
+        &wranks,
+        &input[end..],
+        text,
+    )
+}
+
+// The same from what is made of the book: for each book of which that is made. It goes on to repairs only where the
+// check answered stable.
+fn put_judged<'a>(
+    answer: Checked,
+    n: usize,
+    mlists: &'a [u16],
+    mranks: &'a [u16],
+    wlists: &'a [u16],
+    wranks: &'a [u16],
+    matching: &[u8],
+    text: &mut [u8],
+) -> usize
+    ghost { Record }
+    requires { λ R. ⌜ lent n mlists mranks wlists wranks ≡ R ⌝ }
+    requires { λ R. ⌜ FromBook answer R × (longest ≤ length (now text)) ⌝ }
+    ensures { λ R r. ⌜ EachBook answer R (λ b. Put (now₀ text) 0 (sheetFor b (now₀ matching)) (now₁ text) r) ⌝ }
+{
+    let judged = judge(answer, n, mlists, mranks, wlists, wranks, matching);
     let checked = judged.checked;
     let Checked::Fine = checked else {
         return put_refused(text, checked);
     };
     let places = judged.places;
-    put_answers(
-        n,
-        &loaded.instance.man_lengths,
-        &loaded.instance.man_lists,
-        &loaded.instance.man_ranks,
-        &loaded.instance.woman_lengths,
-        &loaded.instance.woman_lists,
-        &loaded.instance.woman_ranks,
-        places,
-        &input[end..],
-        text,
-    )
+    put_answers(n, mlists, mranks, wlists, wranks, places, matching, text)
 }

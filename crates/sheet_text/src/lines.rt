@@ -1,19 +1,22 @@
 // The lines of the sheet put into a buffer at a position; each function gives the position past what it put.
 use crate::text::put_byte;
 use crate::text::put_field;
+use book::entry_in;
 use book::wide;
 use format::Checked;
 ghost use Prim.Native.Nat.{_+_, _≤_};
 ghost use lib.ListN.{length};
+ghost use Rattle.laws.specs.Moment.{now₀, now₁, vec₀};
 ghost use Rattle.laws.specs.Values.{vec};
 ghost use Rattle.format.specs.Verdict.{verdictOf};
+ghost use Rattle.format.specs.Format.{entryIn};
 ghost use Rattle.sheets.specs.Line.{topLine, pairLine, pairLines, refusalLine, refusedLine};
 ghost use Rattle.sheet_text.specs.Put.{Put};
 
 // Line one: n, the number of rotations, the grade.
 pub fn put_top(out: &mut [u8], at: usize, n: usize, rotations: usize, grade: usize) -> usize
     requires { ⌜ at + length (topLine n rotations grade) ≤ length (now out) ⌝ }
-    ensures { λ r. ⌜ Put (now (out .entry)) at (topLine n rotations grade) (now (out .exit)) r ⌝ }
+    ensures { λ r. ⌜ Put (now₀ out) at (topLine n rotations grade) (now₁ out) r ⌝ }
 {
     let second = put_field(out, at, n, b' ');
     let third = put_field(out, second, rotations, b' ');
@@ -30,7 +33,7 @@ fn put_pair(
     distance: usize,
 ) -> usize
     requires { ⌜ at + length (pairLine man woman letter distance) ≤ length (now out) ⌝ }
-    ensures { λ r. ⌜ Put (now (out .entry)) at (pairLine man woman letter distance) (now (out .exit)) r ⌝ }
+    ensures { λ r. ⌜ Put (now₀ out) at (pairLine man woman letter distance) (now₁ out) r ⌝ }
 {
     let second = put_field(out, at, man, b' ');
     let third = put_field(out, second, woman, b' ');
@@ -48,13 +51,14 @@ pub fn put_pairs(
     letters: &[u8],
     distances: &[usize],
 ) -> usize
-    requires { ⌜ (n ≤ length (now matching)) × (n ≤ length (now letters)) × (n ≤ length (now distances)) × (at + length (pairLines (vec (now matching)) (vec (now letters)) (vec (now distances)) n) ≤ length (now out)) ⌝ }
-    ensures { λ r. ⌜ Put (now (out .entry)) at (pairLines (vec (now (matching .entry))) (vec (now (letters .entry))) (vec (now (distances .entry))) n) (now (out .exit)) r ⌝ }
+    requires { ⌜ (n ≤ length (now matching)) × (n ≤ length (now letters)) × (n ≤ length (now distances)) ×
+        (at + length (pairLines (entryIn (now matching)) (vec (now letters)) (vec (now distances)) n) ≤ length (now out)) ⌝ }
+    ensures { λ r. ⌜ Put (now₀ out) at (pairLines (entryIn (now₀ matching)) (vec₀ letters) (vec₀ distances) n) (now₁ out) r ⌝ }
 {
     let mut end = at;
     let mut s = 0;
     while s < n {
-        let woman = wide(matching[s]);
+        let woman = entry_in(matching, s);
         let letter = letters[s];
         let distance = distances[s];
         end = put_pair(out, end, s, woman, letter, distance);
@@ -66,7 +70,7 @@ pub fn put_pairs(
 // The line of a refusal, at the front.
 fn put_refusal(out: &mut [u8], number: usize) -> usize
     requires { ⌜ length (refusalLine number) ≤ length (now out) ⌝ }
-    ensures { λ r. ⌜ Put (now (out .entry)) 0 (refusalLine number) (now (out .exit)) r ⌝ }
+    ensures { λ r. ⌜ Put (now₀ out) 0 (refusalLine number) (now₁ out) r ⌝ }
 {
     let second = bytes::copy(b"refused ", out);
     put_field(out, second, number, b'\n')
@@ -75,7 +79,7 @@ fn put_refusal(out: &mut [u8], number: usize) -> usize
 // The line of a check's answer that is a refusal, at the front; nothing where it is none.
 pub fn put_refused(out: &mut [u8], checked: Checked) -> usize
     requires { ⌜ 12 ≤ length (now out) ⌝ }
-    ensures { λ r. ⌜ Put (now (out .entry)) 0 (refusedLine (verdictOf checked)) (now (out .exit)) r ⌝ }
+    ensures { λ r. ⌜ Put (now₀ out) 0 (refusedLine (verdictOf checked)) (now₁ out) r ⌝ }
 {
     match checked {
         Checked::Refused(r) => put_refusal(out, wide(r.number)),

@@ -3,16 +3,16 @@ use Prim.Native.Nat.{ℕ}
 use mathlib.Core.List.{List, _++_}
 use lib.ListN.{take, drop}
 use Rattle.format.specs.Verdict.{Verdict, fine, refused}
-use Rattle.format.specs.Format.{byte, people, size}
+use Rattle.format.specs.Format.{people, size}
 use Rattle.stable_theory.specs.Repairs.Answer.{Answer, U, D, F}
-use Rattle.matchings.specs.Matching.{checkMatching}
+use Rattle.matchings.specs.Matching.{checkMatching, womanOf}
 use Rattle.matchings.specs.Extreme.{matchingOf}
 use Rattle.rotations.specs.RotationList.{rotationCount}
 use Rattle.repairs.specs.Repair.{answerFor, movedCount}
 use Rattle.repairs.specs.Grade.{gradeOf}
 use Rattle.sheets.specs.Line.{topLine, pairLines, refusalLine}
 
--- The book: as many bytes as its size says, which its byte 1 gives
+-- The book: as many bytes as the size says that its n gives
 abbrev pub bookPart : List ℕ → List ℕ
 bookPart input = take (size (people input)) input
 
@@ -36,13 +36,17 @@ distanceOf b m F = 0
 unfoldable pub answers : List ℕ → List ℕ → List ℕ
 answers b m =
     topLine (people b) (rotationCount b) (gradeOf b m)
-    ++ pairLines (byte m) (λ s. letterOf (answerFor b m s)) (λ s. distanceOf b m (answerFor b m s)) (people b)
+    ++ pairLines (womanOf m) (λ s. letterOf (answerFor b m s)) (λ s. distanceOf b m (answerFor b m s)) (people b)
 
 -- It goes on to repairs only where the check answered stable; otherwise it is the line of the refusal
 abbrev pub sheetAfter : Verdict → List ℕ → List ℕ → List ℕ
 sheetAfter fine b m = answers b m
 sheetAfter (refused number place second) b m = refusalLine number
 
+-- The sheet of a book and a matching
+abbrev pub sheetFor : List ℕ → List ℕ → List ℕ
+sheetFor b m = sheetAfter (checkMatching b m) b m
+
 -- The sheet of what was read
 unfoldable pub sheetOf : List ℕ → List ℕ
-sheetOf input = sheetAfter (checkMatching (bookPart input) (matchingPart input)) (bookPart input) (matchingPart input)
+sheetOf input = sheetFor (bookPart input) (matchingPart input)

@@ -1,23 +1,24 @@
--- What a sheet says: each line is demand 3's answer for its pair, and the grade is demand 3's grade. The words of the promises are those of
--- crate repair, over all stable matchings of the book. Assumes nothing.
+-- What a sheet says: each line is demand 3's answer for its pair, and the grade is demand 3's grade. The words of the
+-- promises are those of crate repairs, over all stable matchings of the book. Assumes nothing.
 use Prim.Native.Nat.{ℕ, _≤_, _<_}
 use mathlib.Core.Path.{_≡_}
 use mathlib.Core.List.{List, [], _++_}
 use mathlib.Core.Logic.{_↔_}
 use lib.ListN.{take}
 use Rattle.format.specs.Verdict.{fine, refused}
-use Rattle.format.specs.Format.{byte, people}
+use Rattle.format.specs.Outcome.{gives, filled}
+use Rattle.format.specs.Format.{people}
 use Rattle.stable_theory.specs.Repairs.Answer.{Answer, U, D, F}
 use Rattle.stable_theory.specs.Repairs.AnswerLaws.{answer-of}
 use Rattle.stable_theory.specs.Least.Optimal.{proposer-optimal}
 use Rattle.stable_theory.specs.Rotations.Numbering.{rotation}
 use Rattle.stable_theory.specs.Rotations.Canonical.{Canonical, rotations-canonical}
 use Rattle.matchings.specs.BookMarket.{market, market-proper}
-use Rattle.matchings.specs.Matching.{checkMatching}
-use Rattle.matchings.specs.StableCheck.{StableIn, fine-stable}
-use Rattle.matchings.specs.StableVector.{vector-stable}
+use Rattle.matchings.specs.Matching.{checkMatching, StableIn, womanOf}
+use Rattle.matchings.specs.Laws.StableCheck.{fine-stable}
+use Rattle.matchings.specs.Laws.StableVector.{vector-stable}
 use Rattle.rotations.specs.RotationList.{rotationCount}
-use Rattle.repairs.specs.Repair.{Reply, up, down, fixed, answerFor, replyFor, matchingAfter}
+use Rattle.repairs.specs.Repair.{RepairAnswer, up, down, fixed, answerFor, withDistance, entriesFor, matchingFor}
 use Rattle.repairs.specs.Grade.{gradeOf}
 use Rattle.repairs.specs.Promise.{InEvery, Takes, Fewest, Covers}
 use Rattle.repairs.specs.Laws.RepairBytes.{holds}
@@ -26,36 +27,38 @@ use Rattle.repairs.specs.Laws.GradeBytes.{grade-covers, grade-least}
 use Rattle.sheets.specs.Line.{topLine, pairLines, refusalLine}
 use Rattle.sheets.specs.Sheet.{bookPart, matchingPart, letterOf, distanceOf, answers, sheetOf}
 
--- A letter and a distance say a reply: U or D with the distance of the repair, F with 0
-pub data Says : ℕ → ℕ → Reply → Type 0 where
+-- A letter and a distance say an answer: U or D with the distance of the repair, F with 0
+pub data Says : ℕ → ℕ → RepairAnswer → Type 0 where
   says-up : (d : ℕ) → Says 85 d (up d)
   says-down : (d : ℕ) → Says 68 d (down d)
   says-fixed : Says 70 0 fixed
 
--- The letter and the distance of a line of the matching m of the book b, for the pair of student s: they say 'fixed' exactly where every stable
--- matching holds the pair, and otherwise the repair that document 01 takes, and no stable matching without the pair moves fewer students
+-- The letter and the distance of a line of the matching m of the book b, for the pair of student s: they say 'fixed'
+-- exactly where every stable matching holds the pair, and otherwise the repair that document 01 takes, and no stable
+-- matching without the pair moves fewer students
 pub record RightLine (b m : List ℕ) (s letter distance : ℕ) : Type 0 where
-  pub reply : Reply
-  pub says : Says letter distance reply
-  pub fixed-exactly : reply ≡ fixed ↔ InEvery b m s
-  pub taken : (InEvery b m s → ⊥) → (r : List ℕ) × Takes b m s r reply × Fewest b m s r
+  pub answer : RepairAnswer
+  pub says : Says letter distance answer
+  pub fixed-exactly : answer ≡ fixed ↔ InEvery b m s
+  pub taken : (InEvery b m s → ⊥) → (r : List ℕ) × Takes b m s r (gives answer) × Fewest b m s r
 
 -- A sheet of n students with the number of rotations, the grade, and a letter and a distance for each
 pub record RightSheet (b m : List ℕ) (sheet : List ℕ) : Type 0 where
   pub grade : ℕ
   pub letter : ℕ → ℕ
   pub distance : ℕ → ℕ
-  pub text : sheet ≡ topLine (people b) (rotationCount b) grade ++ pairLines (byte m) letter distance (people b)
+  pub text : sheet ≡ topLine (people b) (rotationCount b) grade ++ pairLines (womanOf m) letter distance (people b)
   -- the rotations are those of document 01's list
   pub numbered : Canonical (market b) (proposer-optimal (market b)) (rotationCount b) (rotation (market b))
   -- each line is right
   pub lines : {s : ℕ} → s < people b → RightLine b m s (letter s) (distance s)
-  -- the grade is the least number such that for each pair that is not fixed some stable matching without it moves at most so many others
+  -- the grade is the least number such that for each pair that is not fixed some stable matching without it moves at
+  -- most so many others
   pub covers : Covers b m grade
   pub least : (g : ℕ) → Covers b m g → grade ≤ g
 
--- the letter and the distance of an answer say its reply
-answer-says : (b m : List ℕ) (a : Answer) → Says (letterOf a) (distanceOf b m a) (replyFor b m a)
+-- the letter and the distance of an answer say it
+answer-says : (b m : List ℕ) (a : Answer) → Says (letterOf a) (distanceOf b m a) (withDistance b m a)
 answer-says b m (U v) = says-up _
 answer-says b m (D v) = says-down _
 answer-says b m F = says-fixed
@@ -64,11 +67,12 @@ answer-says b m F = says-fixed
 line-right : {b m : List ℕ} → StableIn b m → {s : ℕ} → s < people b → RightLine b m s (letterOf (answerFor b m s)) (distanceOf b m (answerFor b m s))
 line-right {b} {m} S {s} u =
     let A = answer-of (market-proper (S .matching .formed)) (λ i. 1) (vector-stable S) (holds S u) in
+    let a = answerFor b m s in
     record {
-      reply = replyFor b m (answerFor b m s);
-      says = answer-says b m (answerFor b m s);
+      answer = withDistance b m a;
+      says = answer-says b m a;
       fixed-exactly = reply-fixed S u A;
-      taken = λ n. (take (people b) (matchingAfter b (answerFor b m s) []), reply-takes S u [] A n .0, reply-takes S u [] A n .1);
+      taken = λ n. (take (people b) (filled fine (entriesFor b a) (matchingFor b a) []), reply-takes S u [] A n .0, reply-takes S u [] A n .1);
     }
 
 module _ (input : List ℕ) where

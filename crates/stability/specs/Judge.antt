@@ -5,10 +5,10 @@ use mathlib.Core.List.{List}
 use lib.ListN.{length, replicate}
 use Rattle.laws.specs.Values.{vec}
 use Rattle.format.specs.declared.verdict.Checked.{Checked}
-use Rattle.format.specs.declared.record.Loaded.{Loaded}
+use Rattle.format.specs.declared.record.Instance.{Instance}
 use Rattle.format.specs.Verdict.{verdictOf}
 use Rattle.format.specs.Format.{largest, people}
-use Rattle.format.specs.Record.{recordOf, Recorded, numberIf}
+use Rattle.format.specs.Record.{Record, Recorded, numberIf}
 use Rattle.stable_theory.specs.Stable.Holder.{mirror}
 use Rattle.matchings.specs.declared.places.Judged.{Judged}
 use Rattle.matchings.specs.BookMarket.{market}
@@ -26,26 +26,22 @@ pub record JudgedIs (b m : List ℕ) (r : Judged) : Type 0 where
   pub men : Entries (numberIf (checkMatching b m) (people b)) (vectorOf b m) (r .places .men)
   pub women : Entries (numberIf (checkMatching b m) (people b)) (mirror (market b) (vectorOf b m)) (r .places .women)
 
--- What is made of a book, from the answer of its check and the lent tables of its record
-abbrev pub loadedOf : Checked → ℕ → (mlens mlists mranks wlens wlists wranks : List ℕ) → Loaded
-loadedOf answer n mlens mlists mranks wlens wlists wranks = record { checked = answer; instance = recordOf n mlens mlists mranks wlens wlists wranks }
+-- What is made of a book, from the answer of its check and its record
+abbrev pub instanceOf : Checked → Record → Instance
+instanceOf answer R = record { checked = answer; n = R .n }
 
--- What is made of some book
-pub record FromBook (L : Loaded) : Type 0 where
+-- The two are made of some book
+pub record FromBook (answer : Checked) (R : Record) : Type 0 where
   pub book : List ℕ
-  pub recorded : Recorded book L
+  pub recorded : Recorded book (instanceOf answer R) R
 
--- The answer for each book of which L is made
-abbrev pub Judges : Loaded → List ℕ → Judged → Type 0
-Judges L m r = (b : List ℕ) → Recorded b L → JudgedIs b m r
+-- What holds of each book of which they are made
+abbrev pub EachBook : Checked → Record → (List ℕ → Type 0) → Type 0
+EachBook answer R P = (b : List ℕ) → Recorded b (instanceOf answer R) R → P b
 
--- A book and a matching, what is made of the book, and the answer for it
-pub record BookJudged (b m : List ℕ) (L : Loaded) (r : Judged) : Type 0 where
-  pub loaded : Recorded b L
-  pub judged : JudgedIs b m r
-
-pub book-judged : {b m : List ℕ} {L : Loaded} {r : Judged} → Recorded b L → Judges L m r → BookJudged b m L r
-book-judged {b} R J = record { loaded = R; judged = J b R }
+-- What is answered on the matching m for each of those books
+abbrev pub Judges : Checked → Record → List ℕ → Judged → Type 0
+Judges answer R m r = EachBook answer R (λ b. JudgedIs b m r)
 
 -- An answer, with zeros for the places
 pub record Unplaced (checked : Checked) (r : Judged) : Type 0 where

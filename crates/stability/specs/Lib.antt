@@ -1,6 +1,6 @@
--- The check of a matching on the record's tables: what contracts inside the library and the proofs cite. Assumes nothing.
+-- The check of a matching on the record's tables. Blocking, Placing and Judge have what contracts cite, Laws what only
+-- proofs cite. Assumes nothing.
 pub mod Blocking
-pub mod TableCheck
+pub mod Placing
 pub mod Judge
-pub mod JudgeLaws
-pub mod JudgedStable
+pub mod Laws

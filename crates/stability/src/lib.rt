@@ -1,5 +1,9 @@
-// The check of a matching: rules 8 to 10. `check` takes bytes and has no `requires`; `judge` works on the record of a book that is loaded already.
-mod stability;
+// The check of a matching: rules 8 to 10. `check` takes bytes and has no `requires`; `judge` works on the record of a
+// book that is loaded already.
+mod blocking;
+mod judging;
+mod names;
+mod placing;
 
-pub use stability::check;
-pub use stability::judge;
+pub use judging::check;
+pub use judging::judge;

@@ -1,6 +1,6 @@
 -- The least settled vector at or after a start. Assumes nothing.
 pub mod Settle
-pub mod Beaten
+pub mod Rejected
 pub mod LeastLaws
 pub mod LeastAlike
 pub mod Optimal

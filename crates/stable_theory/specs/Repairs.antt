@@ -8,3 +8,4 @@ pub mod AnswerLaws
 pub mod AnswerAlike
 pub mod RobustLaws
 pub mod Demand3Theory
+pub mod Shared

@@ -11,11 +11,13 @@ pub mod FollowLaws
 pub mod SameRotation
 pub mod RotationAt
 pub mod Choose
+pub mod FollowerCycle
 pub mod Subset
 pub mod Canonical
 pub mod Rebuild
 pub mod Identify
 pub mod OneRotation
+pub mod PassedCount
 pub mod Runs
 pub mod Precedence
 pub mod ClosedSubset

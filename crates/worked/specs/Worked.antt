@@ -1,5 +1,6 @@
--- The cases that document 01 marks P, proved of the definitions that the contracts cite: one table of what is computed and what document 01
--- says, and one computed fact that covers its rows. Books and matchings are the bytes of document 01. Assumes nothing.
+-- The cases that document 01 marks P, proved of the definitions that the contracts cite: one table of what is
+-- computed and what document 01 says, and one computed fact that covers its rows. Books and matchings are the bytes
+-- of document 01. Assumes nothing.
 use Prim.Native.Nat.{ℕ, _<_}
 use mathlib.Core.Path.{_≡_, refl}
 use mathlib.Core.Bool.{true}
@@ -7,12 +8,12 @@ use mathlib.Core.List.{List, [], _∷_, _++_}
 use lib.ListN.{length, getD}
 use Rattle.laws.specs.Cycle.{returns, period, backAfter}
 use Rattle.format.specs.Verdict.{Verdict, fine, refused}
-use Rattle.format.specs.Format.{offset, listLength, due, entry, size}
+use Rattle.format.specs.Format.{people, offset, listLength, due, entry, entryIn, markIn, size}
 use Rattle.format.specs.Lists.{firstFaulty, firstFaultyList, checkLists}
-use Rattle.format.specs.Check.{firstMisfiled, checkBook}
+use Rattle.format.specs.Check.{firstWrongPair, checkBook}
 use Rattle.format.specs.Write.{directory, bookOf}
 use Rattle.stable_theory.specs.Stable.Holder.{mirror, holder, holding}
-use Rattle.stable_theory.specs.Least.Settle.{least, settle, onward, beaten, outranks}
+use Rattle.stable_theory.specs.Least.Settle.{least, settle, onward, rejected, outranks}
 use Rattle.stable_theory.specs.Least.Optimal.{proposer-optimal, receiver-optimal}
 use Rattle.stable_theory.specs.Least.StableTest.{isStable, unheld, reaching}
 use Rattle.stable_theory.specs.Matchings.Matching.{places, partners}
@@ -108,8 +109,8 @@ table =
 
 -- What is computed is what document 01 says, in every row
 pub worked : agree table ≡ true
-unfolding decimalIn decimal line topLine pairLine pairLines refusalLine answers sheetOf offset listLength due entry size firstFaulty firstFaultyList checkLists firstMisfiled checkBook
-    mirror holder holding least settle onward beaten outranks proposer-optimal receiver-optimal isStable unheld reaching places partners down up moved weight answerOf nearer cost robustness
+unfolding decimalIn decimal line topLine pairLine pairLines refusalLine answers sheetOf people offset listLength due entry entryIn markIn size firstFaulty firstFaultyList checkLists firstWrongPair checkBook
+    mirror holder holding least settle onward rejected outranks proposer-optimal receiver-optimal isStable unheld reaching places partners down up moved weight answerOf nearer cost robustness
     eliminate pairOf passed preferred willing nextPlace follow followers lowest rotationAt rotationsFrom rotations after vectorOf required precedes closed returns period backAfter
     market blocks bestBlocking lowestBlocking checkNames checkStable checkMatching manOptimal womanOptimal badMarks checkSet setMatching
 worked = refl

@@ -1,5 +1,5 @@
--- Rules 6 and 7 on one list, and on several: the verdict on several is that on the first that is refused, and fine where none is.
--- Assumes nothing.
+-- Rules 6 and 7 on one list, and on several: the verdict on several is that on the first that is refused, and fine
+-- where none is. Assumes nothing.
 use Prim.Native.Nat.{ℕ, _+_, _≤_, _<_}
 use mathlib.Core.Path.{_≡_, refl, sym, _∙_, ap}
 use mathlib.Core.List.{List}
@@ -9,10 +9,11 @@ use lib.ListN.{length}
 use borrow.Author.Tests.{lt-ltb, le-ltb}
 use Rattle.laws.specs.Choice.{pick, split}
 use Rattle.laws.specs.First.{Scan, scan-hit, scan-end}
-use Rattle.format.specs.Verdict.{Verdict, fine, refused, broken, refuses, rule-fine}
-use Rattle.format.specs.Format.{byte}
+use Rattle.format.specs.Verdict.{Verdict, fine, refused, broken}
+use Rattle.format.specs.Laws.Verdict.{refuses, rule-fine}
+use Rattle.format.specs.Format.{entryIn}
 use Rattle.format.specs.Lists.{firstFaulty, faultyList, firstFaultyList, checkList, checkLists}
-use Rattle.format.specs.Faults.{faulty-cong, lists-fine, lists-refused}
+use Rattle.format.specs.Laws.Faults.{faulty-cong, lists-fine, lists-refused}
 use Rattle.format.specs.Laws.Holds.{Holds}
 
 module _ (n : ℕ) (l : ℕ → ℕ) (len at : ℕ) where
@@ -27,16 +28,17 @@ module _ (n : ℕ) (l : ℕ → ℕ) (len at : ℕ) where
   list-refused q h r = rw (← q, lt-ltb _ _ h, ← r)
 
 -- bytes that hold a list have its verdict
-holds-check : (n at : ℕ) {l : ℕ → ℕ} {len : ℕ} {s : List ℕ} → Holds l len s → checkList n (byte s) (length s) at ≡ checkList n l len at
+holds-check : (n at : ℕ) {l : ℕ → ℕ} {len : ℕ} {s : List ℕ} → Holds l len s → checkList n (entryIn s) (length s) at ≡ checkList n l len at
+unfolding entryIn
 holds-check n at {l} {len} {s} H =
     split len (firstFaulty n l len)
-    (λ h. list-fine n (byte s) (length s) at (sym same) (omega (arith, H .long)) ∙ sym (list-fine n l len at refl h))
+    (λ h. list-fine n (entryIn s) (length s) at (sym same) (omega (arith, H .long)) ∙ sym (list-fine n l len at refl h))
     (λ h.
-    list-refused n (byte s) (length s) at (sym same) (omega (arith, H .long)) refl
+    list-refused n (entryIn s) (length s) at (sym same) (omega (arith, H .long)) refl
     ∙ sym (list-refused n l len at refl h (H .entries (firstFaulty n l len) h)))
   where
-    same : firstFaulty n (byte s) (length s) ≡ firstFaulty n l len
-    same = ap (firstFaulty n (byte s)) (H .long) ∙ faulty-cong n len (H .entries)
+    same : firstFaulty n (entryIn s) (length s) ≡ firstFaulty n l len
+    same = ap (firstFaulty n (entryIn s)) (H .long) ∙ faulty-cong n len (H .entries)
 
 -- What a check of several lists knows at list k: the first k of them are fine
 pub record FineLists (n : ℕ) (e : ℕ → ℕ → ℕ) (len start : ℕ → ℕ) (lists k : ℕ) : Type 0 where
@@ -53,7 +55,7 @@ module _ {n : ℕ} {e : ℕ → ℕ → ℕ} {len start : ℕ → ℕ} {lists : 
     unfolding checkList
     scan = record { within = S .within; fails = λ i h. rule-fine _ _ _ _ (S .each i h) .0 }
 
-    module _ {s : List ℕ} {at : ℕ} {v : Verdict} (h : k < lists) (H : Holds (e k) (len k) s) (q : at ≡ start k) (r : v ≡ checkList n (byte s) (length s) at) where
+    module _ {s : List ℕ} {at : ℕ} {v : Verdict} (h : k < lists) (H : Holds (e k) (len k) s) (q : at ≡ start k) (r : v ≡ checkList n (entryIn s) (length s) at) where
       own : v ≡ checkList n (e k) (len k) (start k)
       own = r ∙ holds-check n at H ∙ ap (checkList n (e k) (len k)) q
 

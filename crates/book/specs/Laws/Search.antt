@@ -1,4 +1,5 @@
--- The search for the first faulty entry of a list, with marks for the entries that it has met, and the count of the marks. Assumes nothing.
+-- The search for the first faulty entry of a list, with marks for the entries that it has met, and the count of the
+-- marks. Assumes nothing.
 use Prim.Native.Nat.{ℕ, _+_, _≤_, _<_}
 use mathlib.Core.Path.{_≡_, sym, _∙_, ap, ap₂, subst}
 use mathlib.Core.Bool.{Bool}
@@ -12,8 +13,8 @@ use Rattle.laws.specs.Marks.{Marks, among, marks-start, marked, unmarked, marks
 use Rattle.laws.specs.Onto.{Into, onto-into}
 use Rattle.laws.specs.Sum.{sum, count}
 use Rattle.laws.specs.SumLaws.{sum-same, count-all}
-use Rattle.format.specs.Format.{byte}
-use Rattle.format.specs.Faults.{faultless}
+use Rattle.laws.specs.Values.{vec}
+use Rattle.format.specs.Laws.Faults.{faultless}
 use Rattle.format.specs.Lists.{stranger, repeat, faulty, firstFaulty}
 
 -- What the search knows at place j: no entry before is faulty, and exactly the entries before are marked
@@ -61,12 +62,12 @@ module _ {n len j : ℕ} {l : ℕ → ℕ} {marks : List ℕ} (S : Sought n l le
 -- Marks of all entries of a list, counted
 module _ {n len : ℕ} {l : ℕ → ℕ} {marks : List ℕ} (M : Marks 256 l len marks) (h : n < 256) where
   -- each is 0 or 1
-  pub mark-small : (v : ℕ) → v < n → byte marks v ≤ 1
+  pub mark-small : (v : ℕ) → v < n → vec marks v ≤ 1
   mark-small v u = rw (M .mark v (omega arith)) (tested (among l len v) (λ e. rw e (omega arith)) (λ e. rw e (omega arith)))
 
   -- their sum is how many of the numbers below n are entries
-  pub marks-count : sum n (byte marks) ≡ count n (among l len)
-  marks-count = sum-same n (byte marks) (λ v. pick (among l len v) 1 0) (λ v u. M .mark v (omega arith))
+  pub marks-count : sum n (vec marks) ≡ count n (among l len)
+  marks-count = sum-same n (vec marks) (λ v. pick (among l len v) 1 0) (λ v u. M .mark v (omega arith))
 
 -- a list of n entries that names all numbers below n has no faulty entry
 pub all-named : (n : ℕ) (l : ℕ → ℕ) {len : ℕ} → len ≡ n → count n (among l len) ≡ n → len ≤ firstFaulty n l len

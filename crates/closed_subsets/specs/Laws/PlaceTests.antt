@@ -1,5 +1,4 @@
--- Tests on places that the code answers with yes or no: whether two vectors agree, whether a vector is stable, whether it has a given set.
--- Assumes nothing.
+-- How the code comes to the answers of its tests on places. Assumes nothing.
 use Prim.Native.Nat.{ℕ, _+_, _≤_, _<_}
 use mathlib.Core.Path.{_≡_, refl, sym, _∙_}
 use mathlib.Core.Bool.{Bool, true, false, not}
@@ -7,6 +6,7 @@ use mathlib.Core.List.{List, _++_}
 use native.Mathlib.Omega.{arith}
 use lib.ListN.{length, take, drop}
 use lib.Seq.{getD-take, length-take-le, length-front}
+use Rattle.tables.specs.Lists.{Sized}
 use Rattle.laws.specs.Choice.{pick, same}
 use Rattle.laws.specs.First.{clash}
 use Rattle.laws.specs.Values.{vec}
@@ -16,31 +16,11 @@ use Rattle.stable_theory.specs.Stable.Market.{Market, Proper}
 use Rattle.stable_theory.specs.Stable.Vector.{Within, Stable}
 use Rattle.stable_theory.specs.Stable.Holding.{Same, stable-same}
 use Rattle.stable_theory.specs.Least.LeastLaws.{least-after, least-least}
-use Rattle.proposals.specs.Lists.{Sized}
-use Rattle.deferred.specs.AnyStart.{Settles}
+use Rattle.deferred.specs.Settled.{Settles}
+use Rattle.closed_subsets.specs.PlaceTests.{AgreeIs, StableIs, ClosesIs}
 use Rattle.closed_subsets.specs.Laws.Over.{over-at}
 
--- whether two tests agree at every number below n
-pub record AgreeIs (n : ℕ) (s t : ℕ → Bool) (answer : Bool) : Type 0 where
-  pub yes : answer ≡ true → (k : ℕ) → k < n → s k ≡ t k
-  pub no : answer ≡ false → ((k : ℕ) → k < n → s k ≡ t k) → ⊥
-
--- whether two vectors agree below n
-pub record SameIs (n : ℕ) (p q : ℕ → ℕ) (answer : Bool) : Type 0 where
-  pub yes : answer ≡ true → (i : ℕ) → i < n → p i ≡ q i
-  pub no : answer ≡ false → ((i : ℕ) → i < n → p i ≡ q i) → ⊥
-
--- whether a vector is stable
-pub record StableIs (I : Market) (p : ℕ → ℕ) (answer : Bool) : Type 0 where
-  pub yes : answer ≡ true → Stable I p
-  pub no : answer ≡ false → Stable I p → ⊥
-
--- whether a vector is stable and two tests agree at every number below n
-pub record ClosesIs (I : Market) (p : ℕ → ℕ) (n : ℕ) (s t : ℕ → Bool) (answer : Bool) : Type 0 where
-  pub stable : answer ≡ true → Stable I p
-  pub agree : answer ≡ true → (k : ℕ) → k < n → s k ≡ t k
-  pub no : answer ≡ false → Stable I p → ((k : ℕ) → k < n → s k ≡ t k) → ⊥
-
+-- an unstable vector is answered no, and a stable one by the two tests
 pub closes-unstable : {I : Market} {p : ℕ → ℕ} {n : ℕ} {s t : ℕ → Bool} {answer : Bool} → StableIs I p answer → answer ≡ false → ClosesIs I p n s t false
 closes-unstable K e = record { stable = λ z. absurd (clash z refl); agree = λ z. absurd (clash z refl); no = λ z P f. K .no e P }
 
@@ -58,15 +38,8 @@ mark-differs t true e f = clash f e
 mark-differs true false e f = clash refl f
 mark-differs false false e f = clash refl e
 
-module _ {n : ℕ} {p q : ℕ → ℕ} where
-  -- the vectors differ at one place, or agree at all
-  pub same-no : {i : ℕ} → i < n → (p i ≡ q i → ⊥) → SameIs n p q false
-  same-no {i} u ne = record { yes = λ e. absurd (clash e refl); no = λ e f. ne (f i u) }
-
-  pub same-yes : {k : ℕ} → n ≤ k → ((i : ℕ) → i < k → p i ≡ q i) → SameIs n p q true
-  same-yes h f = record { yes = λ e i u. f i (omega arith); no = λ e. absurd (clash refl e) }
-
-module _ {n : ℕ} {s t : ℕ → Bool} where
+module _ {A : Type 0} {n : ℕ} {s t : ℕ → A} where
+  -- two functions differ at one number, or agree at all
   pub agree-no : {k : ℕ} → k < n → (s k ≡ t k → ⊥) → AgreeIs n s t false
   agree-no {k} u ne = record { yes = λ e. absurd (clash e refl); no = λ e f. ne (f k u) }
 
@@ -91,11 +64,11 @@ module _ {I : Market} (M : Proper I) {q p t : ℕ → ℕ} {answer : Bool} (S : 
         no = λ z Q. S .unstable e (stable-same _ _ (λ i u. sym (settles-same Q i u)) Q);
       }
 
-  pub settles-kept : {n : ℕ} → n ≡ I .proposers .size → answer ≡ true → {r : Bool} → SameIs n p q r → StableIs I q r
-  settles-kept h e K =
+  settles-kept : answer ≡ true → {r : Bool} → AgreeIs (I .proposers .size) p q r → StableIs I q r
+  settles-kept e K =
       record {
-        yes = λ z. stable-same _ _ (λ i u. K .yes z i (omega arith)) (S .stable e);
-        no = λ z Q. K .no z (λ i u. settles-same Q i (omega arith));
+        yes = λ z. stable-same _ _ (λ i u. K .yes z i u) (S .stable e);
+        no = λ z Q. K .no z (λ i u. settles-same Q i u);
       }
 
 -- a vector in an array, the first n of it lent
@@ -127,10 +100,16 @@ module _ {I : Market} (M : Proper I) (few : I .proposers .size ≤ largest) (men
     pub lent-count : largest ≡ length (p ++ drop (I .proposers .size) men)
     lent-count = sym back-long
 
-    pub lent-same : {answer : Bool} → SameIs (I .proposers .size) (vec (p ++ drop (I .proposers .size) men)) (vec men) answer → SameIs (I .proposers .size) (vec p) (vec (take (I .proposers .size) men)) answer
-    lent-same K =
-        let f = e ∙ lent-sized .places in
-        record {
-          yes = λ z i u. omega (arith, over-at (I .proposers .size) p men f i u, lent-at i u, K .yes z i u);
-          no = λ z g. K .no z (λ i u. omega (arith, over-at (I .proposers .size) p men f i u, lent-at i u, g i u));
-        }
+    back-same : (i : ℕ) → i < I .proposers .size → vec (p ++ drop (I .proposers .size) men) i ≡ vec p i
+    back-same = over-at (I .proposers .size) p men (e ∙ lent-sized .places)
+
+    -- and is the same where it is stable
+    pub lent-kept : {t : ℕ → ℕ} {answer r : Bool} → Settles I (vec (take (I .proposers .size) men)) (vec p) t answer → answer ≡ true →
+        AgreeIs (I .proposers .size) (vec (p ++ drop (I .proposers .size) men)) (vec men) r → StableIs I (vec men) r
+    lent-kept S a K =
+        lent-stable
+        (settles-kept M S a
+        (record {
+          yes = λ z i u. omega (arith, back-same i u, lent-at i u, K .yes z i u);
+          no = λ z g. K .no z (λ i u. omega (arith, back-same i u, lent-at i u, g i u));
+        }))

@@ -1,5 +1,5 @@
--- The places of a set of rotations: those of the set eliminated from the student-best places, in a record's market and in the book's.
--- Assumes nothing.
+-- The places of a set of rotations: those of the set eliminated from the student-best places, in a record's market and
+-- in the book's. Assumes nothing.
 use Prim.Native.Nat.{ℕ, zero, suc, _≤_, _<_}
 use mathlib.Core.Path.{_≡_, sym, _∙_}
 use mathlib.Core.Bool.{Bool, true, false}
@@ -7,9 +7,11 @@ use mathlib.Core.List.{List, _++_}
 use native.Mathlib.Omega.{arith}
 use lib.ListN.{length, take, drop}
 use lib.Seq.{length-take-le, length-front}
+use Rattle.format.specs.Record.{Record}
+use Rattle.instances.specs.Usable.{Usable, marketIn}
+use Rattle.extremes.specs.Places.{PlacesIn}
 use Rattle.laws.specs.Choice.{tested}
 use Rattle.laws.specs.Values.{vec}
-use Rattle.format.specs.declared.record.Instance.{Instance}
 use Rattle.format.specs.Format.{largest}
 use Rattle.stable_theory.specs.Stable.Market.{Market}
 use Rattle.stable_theory.specs.Stable.Vector.{Within}
@@ -20,23 +22,13 @@ use Rattle.stable_theory.specs.Rotations.SameRotation.{eliminate-agree}
 use Rattle.stable_theory.specs.Rotations.Subset.{after}
 use Rattle.stable_theory.specs.Rotations.RotationAlike.{eliminate-same}
 use Rattle.matchings.specs.declared.places.Places.{Places}
-use Rattle.extremes.specs.Usable.{Usable}
-use Rattle.extremes.specs.ExtremePlaces.{PlacesOf}
 use Rattle.closed_subsets.specs.Laws.Over.{over-at, over-past}
-use Rattle.precedence.specs.Laws.ListRead.{numberIn, Readable}
-use Rattle.closed_subsets.specs.Laws.SetCode.{RanksOf, SetReady, SetEliminated}
-use Rattle.rotations.specs.Sets.{member}
+use Rattle.precedence.specs.ListRead.{Readable}
+use Rattle.closed_subsets.specs.SetPlaces.{SetReady, SetEliminated, SetPlaces}
 
--- The answer: the places of the set for n persons, and zeros past them
-pub record SetPlaces (n : ℕ) (ranks l set places men : List ℕ) : Type 0 where
-  pub is : {I : Market} → RanksOf n ranks I → (i : ℕ) → i < I .proposers .size → i < n →
-      vec men i ≡ after I (numberIn l) (vec (take n places)) (member set) (length set) i
-  pub past : (i : ℕ) → n ≤ i → vec men i ≡ 0
-  pub long : length men ≡ largest
-
-module _ {r : Instance} (U : Usable r) {p : ℕ → ℕ} {s : Places} (P : PlacesOf r p s) {l : List ℕ} where
+module _ {r : Record} (U : Usable r) {p : ℕ → ℕ} {s : Places} (P : PlacesIn (r .n) (marketIn r) p s) {l : List ℕ} where
   -- what the code that eliminates the set needs
-  pub places-ready : {z : ℕ} → Readable (r .n) z l → SetReady (r .n) z (r .«man_ranks») (r .«woman_ranks») l (take (r .n) (s .men)) (take (r .n) (s .women))
+  pub places-ready : {z : ℕ} → Readable (r .n) z l → SetReady (r .n) z (r .mranks) (r .wranks) l (take (r .n) (s .men)) (take (r .n) (s .women))
   places-ready R =
       record {
         readable = R;

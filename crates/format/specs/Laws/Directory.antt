@@ -1,5 +1,5 @@
--- What a book's size and its directory say of its lists: where each starts, how long it is, and that it lies within the book.
--- Assumes nothing.
+-- What a book's size and its directory say of its lists: where each starts, how long it is, and that it lies within
+-- the book. Assumes nothing.
 use Prim.Native.Nat.{ℕ, zero, suc, _+_, _*_, _≤_, _<_}
 use mathlib.Core.Path.{_≡_, sym, _∙_}
 use mathlib.Core.Bool.{true, not}
@@ -12,7 +12,7 @@ use borrow.Author.Tests.{eqb-true, not-false}
 use Rattle.laws.specs.Both.{both-left, both-right}
 use Rattle.laws.specs.First.{first-miss}
 use Rattle.format.specs.Format.{people, offset, listLength, listsStart, due, entry, stretch, size}
-use Rattle.format.specs.Check.{filed, firstMisfiled, Sized, Filed, Listed}
+use Rattle.format.specs.Check.{rightPair, firstWrongPair, Sized, RightPairs, Listed}
 use Rattle.format.specs.Laws.Bounds.{list-end}
 use Rattle.format.specs.Laws.Holds.{Holds, part-holds}
 
@@ -27,12 +27,12 @@ module _ {b : List ℕ} {n : ℕ} (S : Sized b n) where
   unfolding size
   in-directory {k} h = omega (arith, S .long)
 
-module _ {b : List ℕ} {n : ℕ} (F : Filed b n) where
-  in-place : (k : ℕ) → k < 2 * n → filed b k ≡ true
-  unfolding firstMisfiled
+module _ {b : List ℕ} {n : ℕ} (F : RightPairs b n) where
+  in-place : (k : ℕ) → k < 2 * n → rightPair b k ≡ true
+  unfolding firstWrongPair
   in-place k h =
       let s = F .sized .number in
-      not-false _ (first-miss (λ i. not (filed b i)) (2 * people b) k (omega (arith, F .filed)))
+      not-false _ (first-miss (λ i. not (rightPair b i)) (2 * people b) k (omega (arith, F .pairs)))
 
   -- list k starts where it is due, and has n entries
   pub starts-due : {k : ℕ} → k < 2 * n → offset b k ≡ due b k

@@ -1,4 +1,5 @@
--- The lists of a well formed book, by person: what holds of list k, and of the list of person i of a side. Assumes nothing.
+-- The lists of a well formed book, by person: what holds of list k, and of the list of person i of a side. Assumes
+-- nothing.
 use Prim.Native.Nat.{ℕ, _+_, _*_, _≤_, _<_}
 use mathlib.Core.Path.{_≡_, sym, subst}
 use mathlib.Core.List.{List}
@@ -25,7 +26,7 @@ pub record FullList (b : List ℕ) (n k : ℕ) : Type 0 where
 full-list : {b : List ℕ} {k : ℕ} → WellFormed b → k < 2 * people b → FullList b (people b) k
 full-list {b} W h =
     record {
-      lies = listed (fine-passed b (fine-well-formed b .1 W) .filed) h;
+      lies = listed (fine-passed b (fine-well-formed b .1 W) .pairs) h;
       long = W .lengths h;
       names = W .names h;
       place-small = place-lt W h;

@@ -1,13 +1,15 @@
--- The bytes of a book that is written: how many there are, and what each field reads back as. Assumes nothing.
+-- The bytes of a book that is written: how many there are, what each field reads back as, and what the buffer holds.
+-- Assumes nothing.
 use Prim.Native.Nat.{ℕ, zero, suc, _+_, _*_, _<_}
 use mathlib.Core.Path.{_≡_, refl, sym, _∙_, ap}
 use mathlib.Core.List.{List, [], _∷_, _++_}
 use native.Mathlib.Omega.{arith}
-use lib.ListN.{length, getD, length-append, List·getD-append}
+use lib.ListN.{length, getD, drop, length-append, List·getD-append}
 use lib.Seq.{getD-append-add}
 use Rattle.laws.specs.Choice.{split}
+use Rattle.format.specs.Verdict.{Verdict, fine, refused}
 use Rattle.format.specs.Format.{byte, people, offset, listLength, listsStart, entry, size}
-use Rattle.format.specs.Write.{given, pairBytes, directory, bookOf}
+use Rattle.format.specs.Write.{given, pairBytes, directory, bookOf, written}
 
 -- k directory pairs have 4 × k bytes
 pub length-directory : (n k : ℕ) → length (directory n k) ≡ 4 * k
@@ -78,10 +80,18 @@ module _ (n : ℕ) (l : List ℕ) where
 
   -- the number of people is n
   pub written-people : people (bookOf n l) ≡ n
-  unfolding bookOf
+  unfolding bookOf people
   written-people = refl
 
   -- there are as many bytes as a book of n has
   pub written-size : length l ≡ 2 * (n * n) → length (bookOf n l) ≡ size n
   unfolding bookOf size
   written-size e = omega (arith, length-append (directory n (2 * n)) l, length-directory n (2 * n))
+
+-- on a refusal the buffer stays as it was, and else it has the book
+module _ {v : Verdict} (n : ℕ) (l out : List ℕ) where
+  pub written-refused : {number place second : ℕ} → v ≡ refused number place second → written v n l out ≡ out
+  written-refused e = ap (λ (u : Verdict). written u n l out) e
+
+  pub written-fine : v ≡ fine → written v n l out ≡ bookOf n l ++ drop (size n) out
+  written-fine e = ap (λ (u : Verdict). written u n l out) e

@@ -1,6 +1,7 @@
--- Places after which no stable matching has a proposer: those of the other side's extreme matching, or none that a place can be. Assumes nothing.
-use Prim.Native.Nat.{ℕ, _≤_, _<_}
-use mathlib.Core.Path.{_≡_, refl, sym, _∙_}
+-- Places after which no stable matching has a proposer: those of the other side's extreme matching, or none that a
+-- place can be. Assumes nothing.
+use Prim.Native.Nat.{ℕ, _<_}
+use mathlib.Core.Path.{_≡_, refl}
 use mathlib.Core.Bool.{false}
 use mathlib.Core.List.{List}
 use native.Mathlib.Omega.{arith}
@@ -13,10 +14,10 @@ use Rattle.stable_theory.specs.Stable.Holding.{Same}
 use Rattle.stable_theory.specs.Stable.Mirror.{mirror-of, mirror-back, mirror-order, stable-across}
 use Rattle.stable_theory.specs.Least.Optimal.{proposer-optimal, receiver-optimal, proposer-optimal-first, receiver-optimal-last}
 use Rattle.format.specs.Format.{largest}
-use Rattle.format.specs.declared.record.Instance.{Instance}
+use Rattle.format.specs.Record.{Record}
 use Rattle.matchings.specs.declared.places.Places.{Places}
-use Rattle.extremes.specs.Usable.{Usable, marketIn}
-use Rattle.extremes.specs.ExtremePlaces.{PlacesOf}
+use Rattle.instances.specs.Usable.{Usable, marketIn}
+use Rattle.extremes.specs.Places.{PlacesIn}
 use Rattle.nearest.specs.Tried.{Last, Ends, Tries}
 use Rattle.nearest.specs.Nearest.{Given, GivenEnds, GivenIn, EndsIn}
 
@@ -47,7 +48,8 @@ women-ends {I} M t {best} {e} same sides =
 
 -- so over a record
 pub given-extremes :
-    {r : Instance} {p worst best : Places} → Usable r → GivenIn r p → PlacesOf r (receiver-optimal (marketIn r)) worst → PlacesOf r (proposer-optimal (marketIn r)) best →
+    {r : Record} {p worst best : Places} → Usable r → GivenIn r p →
+    PlacesIn (r .n) (marketIn r) (receiver-optimal (marketIn r)) worst → PlacesIn (r .n) (marketIn r) (proposer-optimal (marketIn r)) best →
     EndsIn r p (worst .men) (best .women)
 given-extremes {p = p} U G W B =
     let M = U .men .proper in
@@ -58,10 +60,9 @@ pub no-ends : {I : Market} {p e : ℕ → ℕ} → ((i : ℕ) → i < I .propose
 no-ends less i u q k K le = let l = less i u in omega arith
 
 pub given-none :
-    {n : ℕ} {man-lengths man-lists man-ranks woman-lengths woman-lists woman-ranks men women : List ℕ} →
-    Given n man-lengths man-lists man-ranks woman-lengths woman-lists woman-ranks men women →
-    GivenEnds n man-lengths man-lists man-ranks woman-lengths woman-lists woman-ranks men women (replicate largest 65535) (replicate largest 65535)
-given-none {n} G =
+    {R : Record} {men women : List ℕ} → Given R men women →
+    GivenEnds R men women (replicate largest 65535) (replicate largest 65535)
+given-none G =
     record {
       given = G;
       men-end = no-ends (λ i u. omega (arith, getD-replicate {A = ℕ} largest i 65535 0 (omega (arith, G .few)), G .few, G .mirror .left .bound u, G .by-men .proposers .short u));

@@ -1,8 +1,7 @@
 -- The grade over the record of a book is that of the book. Assumes nothing.
 use Prim.Native.Nat.{ℕ, _-_, _<_}
 use mathlib.Core.Path.{_≡_, refl, _∙_, ap}
-use native.Mathlib.Omega.{arith}
-use Rattle.laws.specs.Largest.{largest, largest-ge, largest-le}
+use Rattle.laws.specs.Maximum.{maximum, maximum-same}
 use Rattle.stable_theory.specs.Stable.Market.{Market, Proper}
 use Rattle.stable_theory.specs.Stable.Vector.{Holds, Stable}
 use Rattle.stable_theory.specs.Stable.Holding.{Same}
@@ -11,11 +10,6 @@ use Rattle.stable_theory.specs.Repairs.Moves.{weight-same}
 use Rattle.stable_theory.specs.Repairs.Answer.{Answer, U, D, F, answerOf, SameAnswer, same-up, same-down, same-fixed, cost, robustness}
 use Rattle.stable_theory.specs.Repairs.AnswerAlike.{weight-alike, answer-alike}
 use Rattle.nearest.specs.Nearest.{farOf, costs}
-
--- functions that agree below the bound have one largest value
-largest-same : (n : ℕ) (f g : ℕ → ℕ) → ((i : ℕ) → i < n → f i ≡ g i) → largest n f ≡ largest n g
-largest-same n f g e =
-    omega (arith, largest-le n f (largest n g) (λ i u. omega (arith, e i u, largest-ge n g i u)), largest-le n g (largest n f) (λ i u. omega (arith, e i u, largest-ge n f i u)))
 
 -- the same answer counts the same
 far-same : {I : Market} (p : ℕ → ℕ) {a b : Answer} → SameAnswer I a b → farOf I p a ≡ farOf I p b
@@ -38,11 +32,11 @@ cost-far I p s F = refl
 -- so the largest cost over one market is the robustness in a market that is alike
 pub costs-alike :
     {I J : Market} → Proper I → Proper J → Alike I J → {p q : ℕ → ℕ} → Same I p q → Stable I p → ((s : ℕ) → s < I .proposers .size → (w : ℕ) × Holds I p s w) →
-    largest (I .proposers .size) (costs I p) ≡ robustness J (λ i. 1) q (answerOf J (λ i. 1) q)
+    maximum (I .proposers .size) (costs I p) ≡ robustness J (λ i. 1) q (answerOf J (λ i. 1) q)
 unfolding robustness
 costs-alike {I} {J} M N A {p} {q} e P held =
-    largest-same (I .proposers .size) (costs I p) (λ s. cost J (λ i. 1) q s (answerOf J (λ i. 1) q s))
+    maximum-same (I .proposers .size) (costs I p) (λ s. cost J (λ i. 1) q s (answerOf J (λ i. 1) q s))
     (λ s u.
     let h = held s u .1 in
     ap (λ (k : ℕ). k - 1) (far-same p (answer-alike M N A (λ i. 1) e P h) ∙ far-alike A e (answerOf J (λ i. 1) q s)) ∙ cost-far J q s (answerOf J (λ i. 1) q s))
-    ∙ ap (λ (n : ℕ). largest n (λ s. cost J (λ i. 1) q s (answerOf J (λ i. 1) q s))) (A .proposing .size)
+    ∙ ap (λ (n : ℕ). maximum n (λ s. cost J (λ i. 1) q s (answerOf J (λ i. 1) q s))) (A .proposing .size)

@@ -1,12 +1,12 @@
--- The nearest repair: what the two pushes give is the answer, and the answer is the same in markets that are alike. Assumes nothing.
-use Prim.Native.Nat.{ℕ, _+_, _*_, _-_, _≤_, _<_}
+-- The nearest repair: what the two pushes give is the answer, and the answer is the same in markets that are alike.
+-- Assumes nothing.
+use Prim.Native.Nat.{ℕ, _+_, _≤_, _<_, _*_}
 use mathlib.Core.Path.{_≡_, refl, _∙_}
 use mathlib.Core.List.{List}
 use mathlib.Core.Bool.{Bool}
 use native.Mathlib.Omega.{arith}
 use lib.ListN.{length}
 use Rattle.laws.specs.Sum.{count}
-use Rattle.laws.specs.Table.{cell, cell-lt}
 use Rattle.laws.specs.Values.{vec}
 use Rattle.format.specs.Format.{largest}
 use Rattle.stable_theory.specs.Stable.Market.{Market, exchange}
@@ -19,7 +19,10 @@ use Rattle.stable_theory.specs.Repairs.Moves.{weight-same}
 use Rattle.stable_theory.specs.Repairs.Answer.{Answer, U, D, F, answerOf, Answers, SameAnswer, same-up, same-down, same-fixed}
 use Rattle.stable_theory.specs.Repairs.AnswerLaws.{answer-of, answer-unique}
 use Rattle.stable_theory.specs.Repairs.AnswerAlike.{weight-alike}
-use Rattle.proposals.specs.Lists.{marketOf}
+use Rattle.tables.specs.Lists.{atIn}
+use Rattle.tables.specs.Laws.Rows.{stored-index}
+use Rattle.format.specs.Record.{Record}
+use Rattle.instances.specs.Usable.{marketIn}
 use Rattle.proposals.specs.Push.{Pushable}
 use Rattle.nearest.specs.declared.answer.Letter.the-variants.{Up, Down, Fixed}
 use Rattle.nearest.specs.declared.answer.Nearest.{Nearest}
@@ -49,27 +52,25 @@ shows-alike {I} A e F K =
       long = K .long;
     }
 
-module _ {n : ℕ} {man-lengths man-lists man-ranks woman-lengths woman-lists woman-ranks men women : List ℕ}
-    (G : Given n man-lengths man-lists man-ranks woman-lengths woman-lists woman-ranks men women) {s : ℕ} (u : s < n) where
-  -- the market of the tables, the men proposing
-  abbrev I : Market
-  I = marketOf n n man-lengths man-lists woman-lengths woman-lists
+module _ {R : Record} {men women : List ℕ} (G : Given R men women) {s : ℕ} (u : s < R .n) where
+  abbrev n : ℕ
+  n = R .n
 
-  -- his place is within his row
-  pub place-index : s * n + vec men s < length man-lists
-  place-index =
-      let S = G .by-men .proposers in
-      let l : vec men s < n = omega (arith, G .placed u, S .short u) in
-      omega (arith, cell-lt u l, S .rows)
+  abbrev I : Market
+  I = marketIn R
+
+  -- his place j is within his row
+  pub place-index : {j : ℕ} → j ≡ vec men s → s * R .n + j < length (R .mlists)
+  place-index {j} q = stored-index (G .by-men .proposers) u (omega (arith, G .placed u))
 
   -- the men's vector may be pushed on
   pub men-pushable : Pushable I (vec men) (vec women) s
-  men-pushable = record { stable = G .stable; mirror = G .mirror; proposer = u }
+  men-pushable = record { stable = G .stable; mirror = G .mirror; proposer = u; placed = G .placed u }
 
-  module _ {w : ℕ} (e : w ≡ cell man-lists n s (vec men s)) where
-    -- man s holds woman w
+  module _ {j w : ℕ} (q : j ≡ vec men s) (e : w ≡ atIn (R .n) (R .mlists) s j) where
+    -- man s holds the woman w at that place
     hold : Holds I (vec men) s w
-    hold = rw e (hold-at (G .by-men .proper) (vec men) u (G .placed u))
+    hold = rw (e, q) (hold-at (G .by-men .proper) (vec men) u (G .placed u))
 
     -- and so may the women's
     pub women-pushable : Pushable (exchange I) (vec women) (vec men) w
@@ -78,10 +79,8 @@ module _ {n : ℕ} {man-lengths man-lists man-ranks woman-lengths woman-lists wo
           stable = stable-across (G .by-men .proper) (G .mirror) (G .stable);
           mirror = mirror-back (G .mirror);
           proposer = hold .pair .receiver;
+          placed = let h = G .mirror .there hold in omega (arith, h .is, h .pair .lists);
         }
-
-    pub woman-placed : vec women w < vec woman-lengths w
-    woman-placed = let h = G .mirror .there hold in omega (arith, h .is, h .pair .lists)
 
     module _ {d t v x : ℕ → ℕ} {found there : Bool} {below above : ℕ}
         (A : Tries I (vec men) s d t found) (B : Tries (exchange I) (vec women) w v x there)

@@ -1,15 +1,16 @@
 -- A push on the front of two vectors that have room for more, as the code lends them. Assumes nothing.
-use Prim.Native.Nat.{ℕ, _<_}
-use mathlib.Core.Path.{_≡_, sym}
+use Prim.Native.Nat.{ℕ, _≤_}
+use mathlib.Core.Path.{_≡_, sym, _∙_}
 use mathlib.Core.List.{List, _++_}
 use mathlib.Core.Bool.{Bool}
 use native.Mathlib.Omega.{arith}
 use lib.ListN.{length, take, drop, List·getD-append}
-use lib.Seq.{getD-take}
+use lib.Seq.{getD-take, length-take-le}
 use Rattle.laws.specs.Values.{vec}
 use Rattle.stable_theory.specs.Stable.Market.{Market, Proper, exchange}
 use Rattle.stable_theory.specs.Stable.Holding.{Same, stable-same, hold-at}
 use Rattle.stable_theory.specs.Stable.Alike.{alike-refl, mirror-alike}
+use Rattle.tables.specs.Lists.{Sized}
 use Rattle.proposals.specs.Push.{Pushable, Pushed}
 use Rattle.nearest.specs.Tried.{Tries}
 use Rattle.nearest.specs.Laws.Tried.{pushed-tries, tries-same}
@@ -22,23 +23,29 @@ front-same I l i u = sym (getD-take (I .proposers .size) l i 0 u)
 back-same : (I : Market) (x l : List ℕ) → length x ≡ I .proposers .size → Same I (vec x) (vec (x ++ l))
 back-same I x l e i u = sym (List·getD-append x l 0 i (omega arith))
 
-module _ {I : Market} (M : Proper I) (p t : List ℕ) {s : ℕ} (P : Pushable I (vec p) (vec t) s) where
-  -- the fronts are pushable
-  pub front-pushable : Pushable I (vec (take (I .proposers .size) p)) (vec (take (I .receivers .size) t)) s
-  front-pushable =
-      record {
-        stable = stable-same (vec p) (vec (take (I .proposers .size) p)) (front-same I p) (P .stable);
-        mirror = mirror-alike (alike-refl I) (front-same I p) (front-same (exchange I) t) (P .mirror);
-        proposer = P .proposer;
-      }
+module _ {I : Market} (M : Proper I) (p t : List ℕ) (long : (I .proposers .size ≤ length p) × (I .receivers .size ≤ length t)) where
+  -- the fronts have the market's sizes
+  pub front-sized : Sized (I .proposers .size) (I .receivers .size) (take (I .proposers .size) p) (take (I .receivers .size) t)
+  front-sized = record { places = length-take-le _ p (long .0); bests = length-take-le _ t (long .1) }
 
-  -- what the push gives there it gives of the whole
-  pub front-tries :
-      vec p s < I .proposers .len s → (x y : List ℕ) {found : Bool} → length x ≡ I .proposers .size → length y ≡ I .receivers .size →
-      Pushed I (vec (take (I .proposers .size) p)) s (vec x) (vec y) found →
-      Tries I (vec p) s (vec (x ++ drop (I .proposers .size) p)) (vec (y ++ drop (I .receivers .size) t)) found
-  front-tries l x y e f R =
-      let F = front-pushable in
-      let h = hold-at M (vec (take (I .proposers .size) p)) (P .proposer) (omega (arith, front-same I p s (P .proposer))) in
-      tries-same (P .proposer) (λ i u. sym (front-same I p i u)) (back-same I x _ e) (back-same (exchange I) y _ f)
-      (pushed-tries M (F .stable) h R)
+  module _ {s : ℕ} (P : Pushable I (vec p) (vec t) s) where
+    -- they are pushable
+    pub front-pushable : Pushable I (vec (take (I .proposers .size) p)) (vec (take (I .receivers .size) t)) s
+    front-pushable =
+        record {
+          stable = stable-same (vec p) (vec (take (I .proposers .size) p)) (front-same I p) (P .stable);
+          mirror = mirror-alike (alike-refl I) (front-same I p) (front-same (exchange I) t) (P .mirror);
+          proposer = P .proposer;
+          placed = omega (arith, front-same I p s (P .proposer), P .placed);
+        }
+
+    -- what the push gives there it gives of the whole
+    pub front-tries :
+        (x y : List ℕ) {found : Bool} →
+        length x ≡ length (take (I .proposers .size) p) → length y ≡ length (take (I .receivers .size) t) →
+        Pushed I (vec (take (I .proposers .size) p)) s (vec x) (vec y) found →
+        Tries I (vec p) s (vec (x ++ drop (I .proposers .size) p)) (vec (y ++ drop (I .receivers .size) t)) found
+    front-tries x y e f R =
+        let h = hold-at M (vec (take (I .proposers .size) p)) (P .proposer) (front-pushable .placed) in
+        tries-same (P .proposer) (λ i u. sym (front-same I p i u)) (back-same I x _ (e ∙ front-sized .places))
+        (back-same (exchange I) y _ (f ∙ front-sized .bests)) (pushed-tries M (front-pushable .stable) h R)

@@ -9,7 +9,7 @@ use Rattle.stable_theory.specs.Stable.Vector.{Holds, Stable, Mirror}
 use Rattle.stable_theory.specs.Stable.Holding.{Same, stable-same}
 use Rattle.stable_theory.specs.Stable.Mirror.{mirror-of, mirror-back, mirror-order}
 use Rattle.stable_theory.specs.Stable.Alike.{alike-refl, mirror-alike}
-use Rattle.stable_theory.specs.Least.Beaten.{onward-before}
+use Rattle.stable_theory.specs.Least.Rejected.{onward-before}
 use Rattle.stable_theory.specs.Repairs.Repair.{IsDown, IsUp, down, weight}
 use Rattle.stable_theory.specs.Repairs.RepairLaws.{down-is, down-unique, up-unique, parts-across, down-across}
 use Rattle.stable_theory.specs.Repairs.Moves.{weight-same}

@@ -6,10 +6,13 @@ use mathlib.Core.List.{List}
 use native.Mathlib.Omega.{arith}
 use lib.Dec.{leb}
 use borrow.Author.Tests.{le-leb, lt-leb, eq-eqb, ne-eqb}
+use Rattle.format.specs.Record.{Record}
+use Rattle.instances.specs.Usable.{marketIn}
+use Rattle.instances.specs.Laws.BookTables.{usable-alike}
 use Rattle.laws.specs.Choice.{both, either, either-true}
 use Rattle.laws.specs.Table.{cell}
-use Rattle.format.specs.declared.record.Instance.{Instance}
-use Rattle.format.specs.Verdict.{Verdict, fine, refused, broken, rule, stays, goes-on}
+use Rattle.format.specs.Verdict.{fine, refused, broken, rule}
+use Rattle.format.specs.Laws.Verdict.{stays, goes-on}
 use Rattle.format.specs.Check.{checkBook}
 use Rattle.stable_theory.specs.Stable.Holding.{Same}
 use Rattle.stable_theory.specs.Stable.Alike.{Alike, alike-sym}
@@ -21,23 +24,24 @@ use Rattle.stable_theory.specs.Rotations.SameRotation.{passed-agree}
 use Rattle.stable_theory.specs.Rotations.Subset.{prefix, required, precedes}
 use Rattle.stable_theory.specs.Rotations.RotationAlike.{exposed-alike, eliminate-alike, eliminate-same}
 use Rattle.matchings.specs.BookMarket.{market, market-proper}
-use Rattle.extremes.specs.Usable.{marketIn, usable-alike}
 use Rattle.rotation_numbering.specs.declared.numbering.Extent.{Extent}
-use Rattle.rotation_numbering.specs.Laws.Numbers.{NumberingOf}
+use Rattle.rotation_numbering.specs.Numbering.{NumberingOf}
 use Rattle.rotations.specs.RotationList.{rotationCount}
-use Rattle.rotation_list.specs.Laws.Replies.{Read, read-usable}
+use Rattle.instances.specs.Laws.Read.{Read, read-usable}
 use Rattle.rotation_list.specs.Laws.BookList.{before-stable, numbered-exposed, book-numbered}
-use Rattle.precedence.specs.Laws.ListRead.{startIn, numberIn, pastIn, Readable, number-same, lists-readable, past-passed}
-use Rattle.precedence.specs.Laws.Required.{requiredPlaces, from-zeros, zeros-within}
-use Rattle.rotations.specs.Precedence.{checkNumbers, bookPrecedes, Answer, says, refusal, saying}
+use Rattle.precedence.specs.ListRead.{startIn, numberIn, pastIn, Readable}
+use Rattle.precedence.specs.Required.{requiredPlaces}
+use Rattle.precedence.specs.Laws.ListRead.{number-same, lists-readable, past-passed}
+use Rattle.precedence.specs.Laws.Required.{from-zeros, zeros-within}
+use Rattle.rotations.specs.Precedence.{checkNumbers, bookPrecedes}
 
-module _ {b : List ℕ} {r : Instance} (R : Read b r) where
+module _ {b : List ℕ} {r : Record} (R : Read b r) where
   -- the record's market is alike to the book's
   pub book-alike : Alike (marketIn r) (market b)
   book-alike = usable-alike (R .formed) (R .tables)
 
   -- its rank table has the book's places
-  pub book-ranks : (i w : ℕ) → i < market b .proposers .size → w < market b .receivers .size → cell (r .«man_ranks») (r .n) i w ≡ market b .proposers .place i w
+  pub book-ranks : (i w : ℕ) → i < market b .proposers .size → w < market b .receivers .size → cell (r .mranks) (r .n) i w ≡ market b .proposers .place i w
   unfolding market
   book-ranks i w u v =
       let a : i < r .n = omega (arith, R .tables .number) in
@@ -63,11 +67,11 @@ module _ {b : List ℕ} {r : Instance} (R : Read b r) where
         number-same (book-numbered R N .lists) (market-proper (R .formed)) exposing (λ k h. before-stable R k (omega arith)) (λ k h. numbered-exposed R h) h
 
     -- the test on places is the theory's
-    pub book-past : (q : ℕ → ℕ) {k : ℕ} → k < rotationCount b → pastIn (r .n) (r .«man_ranks») numbers (startIn numbers k) q ≡ passed (market b) (rotation (market b) k) q
+    pub book-past : (q : ℕ → ℕ) {k : ℕ} → k < rotationCount b → pastIn (r .n) (r .mranks) numbers (startIn numbers k) q ≡ passed (market b) (rotation (market b) k) q
     unfolding exposing
     book-past q h =
         past-passed (book-numbered R N .lists) (market-proper (R .formed)) exposing (λ k h. before-stable R k (omega arith)) (λ k h. numbered-exposed R h)
-        (r .n) (r .«man_ranks») q h book-ranks
+        (r .n) (r .mranks) q h book-ranks
 
     -- the least places past a rotation are the theory's
     book-required : {k : ℕ} → k < rotationCount b → Same (market b) (requiredPlaces (marketIn r) (numberIn numbers k)) (required (market b) (rotation (market b) k))
@@ -83,7 +87,7 @@ module _ {b : List ℕ} {r : Instance} (R : Read b r) where
 
     -- so the answer is document 01's
     pub book-precedes : {j k : ℕ} → j < rotationCount b → k < rotationCount b → (j ≡ k → ⊥) →
-        pastIn (r .n) (r .«man_ranks») numbers (startIn numbers j) (requiredPlaces (marketIn r) (numberIn numbers k)) ≡ bookPrecedes b j k
+        pastIn (r .n) (r .mranks) numbers (startIn numbers j) (requiredPlaces (marketIn r) (numberIn numbers k)) ≡ bookPrecedes b j k
     unfolding precedes
     book-precedes {j} {k} g h ne =
         book-past (requiredPlaces (marketIn r) (numberIn numbers k)) g
@@ -121,10 +125,3 @@ module _ (b : List ℕ) (first second : ℕ) where
     numbers-fine g h =
         goes-on (checkBook b) (rule (either (leb (rotationCount b) first) (leb (rotationCount b) second)) 11 0 fine) e
         ∙ ap (λ (t : Bool). rule t 11 0 fine) (ap₂ either (lt-leb (rotationCount b) first g) (lt-leb (rotationCount b) second h))
-
--- the reply on a refusal, and where nothing is refused
-pub saying-refused : {v : Verdict} {number place second : ℕ} → v ≡ refused number place second → (t : Bool) {r : Answer} → r ≡ refusal number place second → r ≡ saying v t
-saying-refused e t q = q ∙ sym (ap (λ (w : Verdict). saying w t) e)
-
-pub saying-fine : {v : Verdict} → v ≡ fine → {t u : Bool} → t ≡ u → {r : Answer} → r ≡ says t → r ≡ saying v u
-saying-fine e {u = u} f q = q ∙ (ap says f ∙ sym (ap (λ (w : Verdict). saying w u) e))

@@ -1,7 +1,6 @@
--- Reading the list of rotations: where each stands, and whether places are past it. Assumes nothing.
+-- Laws on the list of rotations: the code can read it, and its test on places is the theory's. Assumes nothing.
 use Prim.Native.Nat.{ℕ, zero, suc, _+_, _*_, _≤_, _<_}
 use mathlib.Core.Path.{_≡_, refl, sym, _∙_, ap}
-use mathlib.Core.Bool.{Bool}
 use mathlib.Core.List.{List}
 use native.Mathlib.Omega.{arith}
 use native.Mathlib.Numerals.{add-one}
@@ -14,33 +13,16 @@ use Rattle.stable_theory.specs.Stable.Vector.{Stable}
 use Rattle.stable_theory.specs.Rotations.Rotation.{Rotation, Exposed, SamePairs, passed}
 use Rattle.stable_theory.specs.Rotations.RotationCount.{two-pairs}
 use Rattle.stable_theory.specs.Rotations.SameRotation.{same-sym}
-use Rattle.rotation_elimination.specs.Laws.Written.{Lists, Written, Turnable, around-inside, offset, rotationIn, written-in, exposed-turnable, turnable-same}
+use Rattle.rotation_elimination.specs.Written.{Lists, Written, offset, rotationIn}
+use Rattle.rotation_elimination.specs.Laws.Written.{around-inside, written-in, exposed-turnable, turnable-same}
 use Rattle.rotation_numbering.specs.Laws.ListBytes.{offset-within}
+use Rattle.precedence.specs.ListRead.{startIn, numberIn, pastIn, Readable}
 
--- where rotation number k stands in the list
-abbrev pub startIn : List ℕ → ℕ → ℕ
-startIn l zero = 0
-startIn l (suc k) = startIn l k + (1 + 2 * vec l (startIn l k))
-
--- rotation number k of the list
-abbrev pub numberIn : List ℕ → ℕ → Rotation
-numberIn l k = rotationIn l (startIn l k)
-
--- the places are past the rotation that stands at `at`: its first man is at or after the place of the second pair's woman
-unfoldable pub pastIn : ℕ → List ℕ → List ℕ → ℕ → (ℕ → ℕ) → Bool
-pastIn n ranks l at p = leb (cell ranks n (vec l (at + 1)) (vec l (at + 4))) (p (vec l (at + 1)))
-
--- What the code that reads the list needs: z rotations stand in it, each of at least two pairs, of different men and women below n
-pub record Readable (n z : ℕ) (l : List ℕ) : Type 0 where
-  pub within : (k : ℕ) → k ≤ z → startIn l k ≤ length l
-  pub turnable : (k : ℕ) → k < z → Turnable n n (numberIn l k)
-  pub two : (k : ℕ) → k < z → 2 ≤ vec l (startIn l k)
-
--- the next one stands after it
+-- the next rotation stands after it
 pub start-next : (l : List ℕ) (k : ℕ) {at next : ℕ} → at ≡ startIn l k → next ≡ at + (1 + 2 * vec l at) → next ≡ startIn l (k + 1)
 start-next l k e f = let q = ap (startIn l) (add-one k) in omega (arith, ap (vec l) e)
 
--- within the list
+-- each ends within the list
 pub start-room : {n z : ℕ} {l : List ℕ} → Readable n z l → {k at : ℕ} → k < z → at ≡ startIn l k → at + (1 + 2 * vec l at) ≤ length l
 start-room {l = l} R {k} h e = omega (arith, ap (vec l) e, R .within (suc k) h)
 

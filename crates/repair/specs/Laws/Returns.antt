@@ -1,109 +1,103 @@
 -- The returns of the repair of a pair: a refusal, and an answer. Assumes nothing.
 use Prim.Native.Nat.{ℕ, _≤_, _<_}
-use mathlib.Core.Path.{_≡_, sym, _∙_, ap}
-use mathlib.Core.List.{List, _++_}
+use mathlib.Core.Path.{_≡_, refl, sym, _∙_, ap}
+use mathlib.Core.List.{List}
 use native.Mathlib.Omega.{arith}
-use lib.ListN.{length, drop}
+use lib.ListN.{length}
 use lib.IntN.{ℤ}
-use Rattle.laws.specs.Difference.{less}
-use Rattle.laws.specs.Table.{cell}
-use Rattle.laws.specs.Values.{vec, values}
-use Rattle.format.specs.declared.record.Loaded.{Loaded}
-use Rattle.format.specs.Verdict.{Verdict, fine, refused, andThen, goes-on}
-use Rattle.format.specs.Format.{byte, people}
+use Rattle.laws.specs.Values.{vec}
+use Rattle.format.specs.Verdict.{Verdict, fine, refused, andThen}
+use Rattle.format.specs.Laws.Verdict.{goes-on}
+use Rattle.format.specs.Outcome.{gives, after}
+use Rattle.format.specs.Laws.Outcome.{after-refused, after-fine, filled-refused, filled-fine}
+use Rattle.format.specs.Format.{people}
+use Rattle.format.specs.Record.{Record}
 use Rattle.stable_theory.specs.Repairs.Answer.{Answers}
 use Rattle.stable_theory.specs.Repairs.AnswerLaws.{answer-of}
 use Rattle.matchings.specs.declared.places.Judged.{Judged}
 use Rattle.matchings.specs.BookMarket.{market, market-proper}
 use Rattle.matchings.specs.Matching.{vectorOf, checkMatching}
-use Rattle.extremes.specs.ExtremeBytes.{Writable}
-use Rattle.matchings.specs.StableCheck.{fine-stable}
-use Rattle.matchings.specs.StableVector.{vector-stable}
-use Rattle.stability.specs.Judge.{BookJudged}
-use Rattle.repairs.specs.declared.answer.Answer.{Answer as Given}
-use Rattle.nearest.specs.declared.answer.Nearest.{Nearest}
-use Rattle.repairs.specs.Request.{checkPair, checkRequest}
-use Rattle.repairs.specs.Laws.Request.{Asked, asked}
-use Rattle.repairs.specs.Repair.{refusal, replyOf, replyIf, writtenIf, answerFor, replyFor, matchingAfter, gainsAfter, repairReply, repairMatching, repairGains}
-use Rattle.repair_answer.specs.Shown.{Small, shownReply, shownIf}
-use Rattle.nearest.specs.Nearest.{Shows}
-use Rattle.nearest.specs.Laws.Book.{judged-formed, judged-number, judged-men}
+use Rattle.matchings.specs.Laws.StableCheck.{fine-stable}
+use Rattle.matchings.specs.Laws.StableVector.{fine-vector}
+use Rattle.stability.specs.Laws.Judged.{BookJudged}
+use Rattle.extremes.specs.Places.{Writable, womenAt}
+use Rattle.extremes.specs.Laws.ExtremeBytes.{places-writable}
+use Rattle.repairs.specs.declared.answer.Answer.{Answer}
+use Rattle.repairs.specs.Repair.{fixed, answerFor, repairOutcome}
+use Rattle.repairs.specs.Request.{askingMan, checkPair, checkRequest}
 use Rattle.repairs.specs.Laws.RepairBytes.{holds}
-use Rattle.repair.specs.Laws.Shown.{places-small, places-writable, after-stable, says-reply, says-bytes, says-gains}
+use Rattle.nearest.specs.declared.answer.Nearest.{Nearest}
+use Rattle.nearest.specs.Nearest.{Shows, ShowsFor}
+use Rattle.nearest.specs.Laws.Book.{judged-formed, judged-number, judged-usable, judged-given, shows-book}
+use Rattle.repair_answer.specs.Shown.{Small, gainsAt, shownAnswer, shownIn}
+use Rattle.repair.specs.Repaired.{Repaired}
+use Rattle.repair.specs.Laws.Shown.{places-stable, after-stable, says-answer, says-bytes, says-gains}
 
-module _ (b m q out : List ℕ) (gains : List ℤ) where
-  -- What a return shows: the reply, and the two buffers
-  abbrev pub Returns : Given → List ℕ → List ℤ → Type 0
-  Returns r out′ gains′ = (replyOf r ≡ repairReply b m q out gains) × ((out′ ≡ repairMatching b m q out gains) × (gains′ ≡ repairGains b m q out gains))
-
-  -- a refusal leaves both as they were
-  pub returns-refused : (r : Given) {number place second : ℕ} → checkRequest b m q (length out) (length gains) ≡ refused number place second → replyOf r ≡ refusal number place second → Returns r out gains
-  returns-refused r e f = (
-    f ∙ sym (ap (λ (v : Verdict). replyIf v (replyFor b m (answerFor b m (byte q 0)))) e),
-    (
-      sym (ap (λ (v : Verdict). writtenIf v (matchingAfter b (answerFor b m (byte q 0)) out) out) e),
-      sym (ap (λ (v : Verdict). writtenIf v (gainsAfter b m (answerFor b m (byte q 0)) gains) gains) e),
-    ),
-  )
-
-  -- an answer
-  pub returns-answer : (r : Given) {out′ : List ℕ} {gains′ : List ℤ} → checkRequest b m q (length out) (length gains) ≡ fine →
-      replyOf r ≡ replyFor b m (answerFor b m (byte q 0)) → out′ ≡ matchingAfter b (answerFor b m (byte q 0)) out → gains′ ≡ gainsAfter b m (answerFor b m (byte q 0)) gains →
-      Returns r out′ gains′
-  returns-answer r e f g h = (
-    f ∙ sym (ap (λ (v : Verdict). replyIf v (replyFor b m (answerFor b m (byte q 0)))) e),
-    (
-      g ∙ sym (ap (λ (v : Verdict). writtenIf v (matchingAfter b (answerFor b m (byte q 0)) out) out) e),
-      h ∙ sym (ap (λ (v : Verdict). writtenIf v (gainsAfter b m (answerFor b m (byte q 0)) gains) gains) e),
-    ),
-  )
+module _ {b m q out : List ℕ} {gains : List ℤ} where
+  -- a refusal leaves both buffers as they were
+  repaired-refused : {r : Answer} {v : Verdict} {number place second : ℕ} → checkRequest b m q (length out) (length gains) ≡ v →
+      v ≡ refused number place second → repairOutcome r ≡ after v fixed → Repaired b m q out gains r out gains
+  repaired-refused w e f =
+      record {
+        reply = after-refused (w ∙ e) _ (f ∙ ap (λ (v : Verdict). after v fixed) e);
+        bytes = filled-refused (w ∙ e) _ _ out;
+        places = filled-refused (w ∙ e) _ _ gains;
+      }
 
   -- what the check of the matching refuses is refused
-  pub request-refused : {number place second : ℕ} → checkMatching b m ≡ refused number place second → checkRequest b m q (length out) (length gains) ≡ refused number place second
-  request-refused e = ap (λ (v : Verdict). andThen v (checkPair (people b) m q (length out) (length gains))) e
+  pub matching-refused : {r : Answer} {v : Verdict} {number place second : ℕ} → v ≡ checkMatching b m →
+      v ≡ refused number place second → repairOutcome r ≡ after v fixed → Repaired b m q out gains r out gains
+  matching-refused w e f =
+      let c = ap (λ (v : Verdict). andThen v (checkPair (people b) m q (length out) (length gains))) (sym w ∙ e) in
+      repaired-refused (c ∙ sym e) e f
 
-  module _ {L : Loaded} {j : Judged} (J : BookJudged b m L j) (f : checkMatching b m ≡ fine) where
-    -- and else the rules of the request follow
-    pub request-follows : checkRequest b m q (length out) (length gains) ≡ checkPair (L .instance .n) m q (length out) (length gains)
-    request-follows =
-        goes-on (checkMatching b m) (checkPair (people b) m q (length out) (length gains)) f
-        ∙ ap (λ (n : ℕ). checkPair n m q (length out) (length gains)) (sym (judged-number J f))
+module _ {b m : List ℕ} {R : Record} {j : Judged} (J : BookJudged b m R j) (f : checkMatching b m ≡ fine) where
+  -- the given places fit a signed byte
+  pub given-small : Small (R .n) (j .places .men)
+  given-small =
+      let G = judged-given J f in
+      record {
+        long = omega (arith, J .judged .men .long, G .few);
+        small = λ u. omega (arith, G .placed u, G .by-men .proposers .short u, G .few);
+      }
 
-    -- there is a byte for each man
-    pub matching-long : L .instance .n ≤ length m
-    matching-long = omega (arith, judged-number J f, fine-stable b m .0 f .matching .long)
+  -- where the matching is not refused the rules of the request follow
+  follows : (q : List ℕ) (room gainsRoom : ℕ) → checkRequest b m q room gainsRoom ≡ checkPair (R .n) m q room gainsRoom
+  follows q room gainsRoom =
+      goes-on (checkMatching b m) (checkPair (people b) m q room gainsRoom) f
+      ∙ ap (λ (n : ℕ). checkPair n m q room gainsRoom) (sym (judged-number J f))
 
-    -- the given places fit a signed byte
-    pub given-small : L .instance .n ≤ length (j .places .men) → Small (L .instance .n) (j .places .men)
-    unfolding market
-    given-small h =
-        places-small J f (vector-stable (fine-stable b m .0 f)) (j .places .men) (λ i u. judged-men J f i (omega (arith, judged-number J f))) h
+  pub request-refused : {q out : List ℕ} {gains : List ℤ} {r : Answer} {v : Verdict} {number place second : ℕ} →
+      v ≡ checkPair (R .n) m q (length out) (length gains) →
+      v ≡ refused number place second → repairOutcome r ≡ after v fixed → Repaired b m q out gains r out gains
+  request-refused {q} {out} {gains} w e g = repaired-refused (follows q (length out) (length gains) ∙ sym w) e g
 
-    module _ (e : checkPair (L .instance .n) m q (length out) (length gains) ≡ fine) where
-      -- the asking student, and room for the result
-      pub asks : Asked (L .instance .n) q (length out) (length gains)
-      asks = asked (L .instance .n) m q (length out) (length gains) e
+  module _ {s : ℕ} (u : s < R .n) {r : Nearest} (S : ShowsFor R (vec (j .places .men)) s r) where
+    -- the search found the answer for the bytes
+    answers : Answers (market b) (λ i. 1) (vectorOf b m) s (answerFor b m s)
+    answers =
+        answer-of (market-proper (judged-formed J f)) (λ i. 1) (fine-vector b m f)
+        (holds (fine-stable b m .0 f) (omega (arith, judged-number J f)))
 
-      student : byte q 0 < people b
-      student = omega (arith, asks .student, judged-number J f)
+    found : Shows (market b) (vectorOf b m) (answerFor b m s) r
+    found = shows-book J f u S
 
-      answers : Answers (market b) (λ i. 1) (vectorOf b m) (byte q 0) (answerFor b m (byte q 0))
-      answers =
-          let S = fine-stable b m .0 f in
-          answer-of (market-proper (judged-formed J f)) (λ i. 1) (vector-stable S) (holds S student)
+    -- which can be written
+    pub found-writable : {out : List ℕ} → R .n ≤ length out → Writable (R .n) (R .mlists) (r .men) out
+    found-writable h =
+        let P = places-stable J f (after-stable J f answers) (found .places) in
+        places-writable (judged-usable J f) P (λ i u. refl) (omega (arith, S .long, judged-given J f .few)) h
 
-      module _ {r : Nearest} (S : Shows (market b) (vectorOf b m) (answerFor b m (byte q 0)) r) where
-        -- what the search found can be written
-        pub found-writable : L .instance .n ≤ length (r .men) → Writable (L .instance .n) (L .instance .«man_lists») (r .men) out
-        found-writable h = places-writable J f (after-stable J f answers) (r .men) (S .places) h (asks .room-fits)
-
-        pub found-small : L .instance .n ≤ length (r .men) → Small (L .instance .n) (r .men)
-        found-small h = places-small J f (after-stable J f answers) (r .men) (S .places) h
-
-        -- and is the answer
-        pub returns-found : (a : Given) {out′ : List ℕ} {gains′ : List ℤ} → replyOf a ≡ shownReply (r .letter) (r .distance) →
-            out′ ≡ shownIf (r .letter) (values (λ i. cell (L .instance .«man_lists») (L .instance .n) i (vec (r .men) i)) 0 (L .instance .n) ++ drop (L .instance .n) out) out →
-            gains′ ≡ shownIf (r .letter) (values (λ i. less (vec (j .places .men) i) (vec (r .men) i)) 0 (L .instance .n) ++ drop (L .instance .n) gains) gains →
-            Returns a out′ gains′
-        returns-found a x y z =
-            returns-answer a (request-follows ∙ e) (x ∙ says-reply J f answers S) (y ∙ says-bytes J f answers S out) (z ∙ says-gains J f answers S gains)
+    -- and is what is returned
+    pub returns-found : {q out : List ℕ} {gains : List ℤ} → s ≡ askingMan q → checkPair (R .n) m q (length out) (length gains) ≡ fine →
+        {a : Answer} {out′ : List ℕ} {gains′ : List ℤ} → repairOutcome a ≡ gives (shownAnswer (r .letter) (r .distance)) →
+        out′ ≡ shownIn (r .letter) (R .n) (womenAt (R .n) (R .mlists) (vec (r .men))) out →
+        gains′ ≡ shownIn (r .letter) (R .n) (gainsAt (R .n) (vec (j .places .men)) (vec (r .men))) gains →
+        Repaired b m q out gains a out′ gains′
+    returns-found {q} {out} {gains} k e x y z =
+        let c = follows q (length out) (length gains) ∙ e in
+        record {
+          reply = after-fine c (rw (← k) (says-answer J f answers found)) x;
+          bytes = filled-fine c _ _ out (rw (← k) (y ∙ says-bytes J f answers found out));
+          places = filled-fine c _ _ gains (rw (← k) (z ∙ says-gains J f answers found gains));
+        }

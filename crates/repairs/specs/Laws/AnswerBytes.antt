@@ -1,5 +1,5 @@
--- The answer of a book and a matching, of bytes: it is fixed exactly where every stable matching holds the pair, and otherwise the repair that
--- document 01 takes, which moves fewest. Assumes nothing.
+-- The answer of a book and a matching, of bytes: it is fixed exactly where every stable matching holds the pair, and
+-- otherwise the repair that document 01 takes, which moves fewest. Assumes nothing.
 use Prim.Native.Nat.{ℕ, _<_}
 use mathlib.Core.Path.{_≡_, refl, sym, _∙_}
 use mathlib.Core.List.{List, _++_}
@@ -8,18 +8,20 @@ use native.Mathlib.Omega.{arith}
 use lib.ListN.{take, drop}
 use lib.Seq.{take-at}
 use Rattle.laws.specs.Values.{length-values}
+use Rattle.format.specs.Verdict.{fine}
+use Rattle.format.specs.Outcome.{gives, filled}
 use Rattle.format.specs.Format.{people}
 use Rattle.stable_theory.specs.Matchings.Matching.{partners}
 use Rattle.stable_theory.specs.Repairs.Repair.{Parts, Fixed, IsDown, IsUp, weight}
 use Rattle.stable_theory.specs.Repairs.Answer.{Answer, Answers, nearer-up, nearer-down, neither, Nearest}
 use Rattle.stable_theory.specs.Repairs.AnswerLaws.{answer-right}
 use Rattle.matchings.specs.BookMarket.{market, market-proper}
-use Rattle.matchings.specs.Matching.{vectorOf}
+use Rattle.matchings.specs.Matching.{vectorOf, StableIn}
 use Rattle.matchings.specs.Extreme.{matchingOf}
-use Rattle.matchings.specs.StableCheck.{StableIn, fine-stable}
-use Rattle.matchings.specs.StableVector.{matching-of, vector-stable, fine-vector, vector-fine, vector-back}
-use Rattle.repairs.specs.Repair.{movedCount, fixed, replyFor, matchingAfter}
-use Rattle.repairs.specs.Laws.Bytes.{same-byte, moved-count, moved-vector}
+use Rattle.matchings.specs.Laws.StableCheck.{fine-stable}
+use Rattle.matchings.specs.Laws.StableVector.{matching-of, vector-stable, fine-vector, vector-fine, vector-back}
+use Rattle.repairs.specs.Repair.{movedCount, fixed, withDistance, entriesFor, matchingFor}
+use Rattle.repairs.specs.Laws.Bytes.{same-woman, moved-count, moved-vector}
 use Rattle.repairs.specs.Laws.RepairBytes.{RepairAt, holds, without-parts, repair-bytes, repair-vector}
 use Rattle.repairs.specs.Promise.{InEvery, Without, NoWorse, NoBetter, Takes, takes-up, takes-down, Fewest}
 
@@ -44,10 +46,10 @@ module _ {b m : List ℕ} (S : StableIn b m) {s : ℕ} (l : s < people b) where
   -- the pair is fixed in vectors exactly where it is in bytes
   pub every-fixed : InEvery b m s → Fixed (market b) (vectorOf b m) s
   every-fixed E k K =
-      sym (vector-back (S .matching .formed) K l) ∙ same-byte (S .matching) (matching-of (S .matching .formed) K) l .0 (E (matchingOf b k) (vector-fine (S .matching .formed) K))
+      sym (vector-back (S .matching .formed) K l) ∙ same-woman (S .matching) (matching-of (S .matching .formed) K) l .0 (E (matchingOf b k) (vector-fine (S .matching .formed) K))
 
   pub fixed-every : Fixed (market b) (vectorOf b m) s → InEvery b m s
-  fixed-every K k e = same-byte (S .matching) (fine-stable b k .0 e .matching) l .1 (K (vectorOf b k) (fine-vector b k e))
+  fixed-every K k e = same-woman (S .matching) (fine-stable b k .0 e .matching) l .1 (K (vectorOf b k) (fine-vector b k e))
 
   -- the distances of bytes are the weights of vectors
   far : {v : ℕ → ℕ} → Parts (market b) (vectorOf b m) s v → movedCount (people b) m (matchingOf b v) ≡ weight (market b) (λ i. 1) (vectorOf b m) v
@@ -61,7 +63,7 @@ module _ {b m : List ℕ} (S : StableIn b m) {s : ℕ} (l : s < people b) where
   fewest N k K = omega (arith, far (N .parts), far-bytes k K, N .nearest (without-parts S l k K))
 
   -- the reply is fixed exactly where every stable matching holds the pair
-  pub reply-fixed : {a : Answer} → Answers (market b) (λ i. 1) (vectorOf b m) s a → replyFor b m a ≡ fixed ↔ InEvery b m s
+  pub reply-fixed : {a : Answer} → Answers (market b) (λ i. 1) (vectorOf b m) s a → withDistance b m a ≡ fixed ↔ InEvery b m s
   reply-fixed (nearer-up K f) =
       (λ e. let z : _≡_ {A = ℕ} 0 1 = cc in absurd (omega arith), λ E. absurd (K .parts .without (every-fixed E _ (K .parts .stable))))
   reply-fixed (nearer-down K f) =
@@ -70,7 +72,8 @@ module _ {b m : List ℕ} (S : StableIn b m) {s : ℕ} (l : s < people b) where
 
   -- and else it is the repair that document 01 takes, which moves fewest
   pub reply-takes : (out : List ℕ) {a : Answer} → Answers (market b) (λ i. 1) (vectorOf b m) s a → (InEvery b m s → ⊥) →
-      Takes b m s (take (people b) (matchingAfter b a out)) (replyFor b m a) × Fewest b m s (take (people b) (matchingAfter b a out))
+      Takes b m s (take (people b) (filled fine (entriesFor b a) (matchingFor b a) out)) (gives (withDistance b m a))
+      × Fewest b m s (take (people b) (filled fine (entriesFor b a) (matchingFor b a) out))
   reply-takes out (nearer-up {u} K f) n =
       rw (written-bytes b u out) (
         takes-up (repair-bytes S l (up-at K)) (λ d X. omega (arith, far (K .parts), far-bytes d (X .parts), f (vectorOf b d) (at-down (repair-vector S l d X)))),

@@ -1,5 +1,6 @@
--- Bytes and place vectors of stable matchings of a book: two students' mentors agree exactly where the places do, so the distance in bytes is
--- the number of moved places, and the places gained are read off the vectors. Assumes nothing.
+-- Bytes and place vectors of stable matchings of a book: two students' mentors agree exactly where the places do, so
+-- the distance in bytes is the number of moved places, and the places gained are read off the vectors. Assumes
+-- nothing.
 use Prim.Native.Nat.{ℕ, _<_, min}
 use mathlib.Core.Path.{_≡_, sym, _∙_, ap}
 use mathlib.Core.Bool.{Bool, not}
@@ -10,45 +11,44 @@ use lib.Dec.{eqb}
 use borrow.Author.Tests.{eq-eqb, ne-eqb}
 use Rattle.laws.specs.Choice.{pick, same}
 use Rattle.laws.specs.SumLaws.{sum-same}
-use Rattle.format.specs.Format.{byte, people}
+use Rattle.format.specs.Format.{people}
 use Rattle.format.specs.WellFormed.{WellFormed}
 use Rattle.stable_theory.specs.Stable.Vector.{Stable}
 use Rattle.stable_theory.specs.Matchings.MatchingLaws.{places-placed, same-place}
 use Rattle.stable_theory.specs.Repairs.Repair.{moved, weight}
 use Rattle.stable_theory.specs.Repairs.Moves.{weight-same}
 use Rattle.matchings.specs.BookMarket.{market, market-proper}
-use Rattle.matchings.specs.Matching.{manRank, vectorOf}
+use Rattle.matchings.specs.Matching.{manRank, vectorOf, MatchingIn, womanOf}
 use Rattle.matchings.specs.Extreme.{matchingOf}
-use Rattle.matchings.specs.StableCheck.{MatchingIn}
-use Rattle.matchings.specs.StableVector.{matching-in, matching-of, vector-back}
+use Rattle.matchings.specs.Laws.StableVector.{matching-in, matching-of, vector-back}
 use Rattle.repairs.specs.Repair.{movedCount}
 
 -- the place of a student's mentor
-pub place-of : {b m : List ℕ} → MatchingIn b m → {i : ℕ} → i < people b → vectorOf b m i ≡ manRank b i (byte m i)
+pub place-of : {b m : List ℕ} → MatchingIn b m → {i : ℕ} → i < people b → vectorOf b m i ≡ manRank b i (womanOf m i)
 unfolding market
-place-of {b} {m} A {i} u = places-placed (market b) (byte m) i (A .names .below u)
+place-of {b} {m} A {i} u = places-placed (market b) (womanOf m) i (A .names .below u)
 
 module _ {b m k : List ℕ} (A : MatchingIn b m) (B : MatchingIn b k) where
   -- one mentor, one place
-  pub same-byte : {i : ℕ} → i < people b → byte k i ≡ byte m i ↔ vectorOf b k i ≡ vectorOf b m i
+  pub same-woman : {i : ℕ} → i < people b → womanOf k i ≡ womanOf m i ↔ vectorOf b k i ≡ vectorOf b m i
   unfolding market
-  same-byte {i} u =
+  same-woman {i} u =
       let S = same-place (market-proper (A .formed)) (matching-in B) (matching-in A) u in
       (λ e. S .1 (ap (λ (w : ℕ). min w (people b)) e), λ e. omega (arith, S .0 e, A .names .below u, B .names .below u))
 
   -- so the two tests agree
-  pub moved-byte : {i : ℕ} → i < people b → not (eqb (byte k i) (byte m i)) ≡ moved (vectorOf b m) (vectorOf b k) i
+  pub moved-woman : {i : ℕ} → i < people b → not (eqb (womanOf k i) (womanOf m i)) ≡ moved (vectorOf b m) (vectorOf b k) i
   unfolding moved
-  moved-byte {i} u =
-      ap not (same (byte k i) (byte m i) (λ e. eq-eqb _ _ e ∙ sym (eq-eqb _ _ (same-byte u .0 e)))
-      (λ n. ne-eqb _ _ n ∙ sym (ne-eqb _ _ (λ e. n (same-byte u .1 e)))))
+  moved-woman {i} u =
+      ap not (same (womanOf k i) (womanOf m i) (λ e. eq-eqb _ _ e ∙ sym (eq-eqb _ _ (same-woman u .0 e)))
+      (λ n. ne-eqb _ _ n ∙ sym (ne-eqb _ _ (λ e. n (same-woman u .1 e)))))
 
   -- and the distance is the number of moved places
   pub moved-count : movedCount (people b) m k ≡ weight (market b) (λ i. 1) (vectorOf b m) (vectorOf b k)
   unfolding market weight
   moved-count =
-      sum-same (people b) (λ i. pick (not (eqb (byte k i) (byte m i))) 1 0) (λ i. pick (moved (vectorOf b m) (vectorOf b k) i) 1 0)
-      (λ i u. ap (λ (t : Bool). pick {A = ℕ} t 1 0) (moved-byte u))
+      sum-same (people b) (λ i. pick (not (eqb (womanOf k i) (womanOf m i))) 1 0) (λ i. pick (moved (vectorOf b m) (vectorOf b k) i) 1 0)
+      (λ i u. ap (λ (t : Bool). pick {A = ℕ} t 1 0) (moved-woman u))
 
 -- the same of the matching of a stable vector
 pub moved-vector : {b m : List ℕ} → MatchingIn b m → {v : ℕ → ℕ} → Stable (market b) v → movedCount (people b) m (matchingOf b v) ≡ weight (market b) (λ i. 1) (vectorOf b m) v
@@ -58,5 +58,5 @@ moved-vector {b} {m} A {v} S =
     moved-count A (matching-of W S) ∙ weight-same (market b) (λ i. 1) (vectorOf b m) (vectorOf b (matchingOf b v)) v (λ i u. vector-back W S u)
 
 -- the place of a student's mentor in it is that of the vector
-pub vector-place : {b : List ℕ} (W : WellFormed b) {v : ℕ → ℕ} (S : Stable (market b) v) {i : ℕ} → i < people b → manRank b i (byte (matchingOf b v) i) ≡ v i
+pub vector-place : {b : List ℕ} (W : WellFormed b) {v : ℕ → ℕ} (S : Stable (market b) v) {i : ℕ} → i < people b → manRank b i (womanOf (matchingOf b v) i) ≡ v i
 vector-place W S u = sym (place-of (matching-of W S) u) ∙ vector-back W S u

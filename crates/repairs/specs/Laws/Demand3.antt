@@ -1,22 +1,26 @@
 -- Demand 3 from the answer to the replies and buffers of the contracts. Assumes nothing.
 use Prim.Native.Nat.{ℕ, _≤_, _<_}
-use mathlib.Core.Path.{_≡_, _∙_, ap}
+use mathlib.Core.Path.{_≡_, refl, sym, _∙_, ap}
 use mathlib.Core.List.{List}
 use mathlib.Core.Logic.{_↔_}
 use lib.ListN.{length}
 use lib.IntN.{ℤ}
-use Rattle.format.specs.Verdict.{Verdict, fine, goes-on}
+use Rattle.format.specs.Verdict.{fine}
+use Rattle.format.specs.Laws.Verdict.{goes-on}
+use Rattle.format.specs.Outcome.{gives}
+use Rattle.format.specs.Laws.Outcome.{gives-same, after-fine}
 use Rattle.format.specs.Format.{people}
+use Rattle.format.specs.Laws.Rows.{pair-first}
 use Rattle.stable_theory.specs.Repairs.Answer.{Answers}
 use Rattle.stable_theory.specs.Repairs.AnswerLaws.{answer-of}
 use Rattle.matchings.specs.BookMarket.{market, market-proper}
-use Rattle.matchings.specs.Matching.{vectorOf, checkMatching}
-use Rattle.matchings.specs.StableCheck.{StableIn, fine-stable}
-use Rattle.matchings.specs.StableVector.{vector-stable}
+use Rattle.matchings.specs.Matching.{womanOf, vectorOf, checkMatching, StableIn}
+use Rattle.matchings.specs.Laws.StableCheck.{fine-stable}
+use Rattle.matchings.specs.Laws.StableVector.{vector-stable}
 use Rattle.repairs.specs.Request.{checkRequest}
 use Rattle.repairs.specs.Laws.Request.{pair-fine}
 use Rattle.repairs.specs.Repair.{answerFor, fixed, repairReply, repairMatching, repairGains}
-use Rattle.repairs.specs.Grade.{grade, gradeOf, gradeReply, replyIf}
+use Rattle.repairs.specs.Grade.{gradeOf, gradeReply}
 use Rattle.repairs.specs.Laws.RepairBytes.{holds}
 use Rattle.repairs.specs.Laws.AnswerBytes.{reply-fixed, reply-takes}
 use Rattle.repairs.specs.Laws.GainBytes.{reply-gains}
@@ -37,16 +41,18 @@ module _ (b m : List ℕ) (s : ℕ) (out : List ℕ) (gains : List ℤ) (f : che
   answers : Answers (market b) (λ i. 1) (vectorOf b m) s (answerFor b m s)
   answers = answer-of (market-proper (inside .matching .formed)) (λ i. 1) (vector-stable inside) (holds inside l)
 
-  pub fixed-iff : repairReply b m (pairOf m s) out gains ≡ fixed ↔ InEvery b m s
-  fixed-iff = rw not-refused (reply-fixed inside l answers)
+  pub fixed-iff : repairReply b m (pairOf m s) out gains ≡ gives fixed ↔ InEvery b m s
+  fixed-iff =
+      let R = reply-fixed inside l answers in
+      rw (not-refused, pair-first s (womanOf m s)) (λ e. R .0 (gives-same e), λ E. ap gives (R .1 E))
 
   pub takes : (InEvery b m s → ⊥) → Takes b m s (written b (repairMatching b m (pairOf m s) out gains)) (repairReply b m (pairOf m s) out gains) × Fewest b m s (written b (repairMatching b m (pairOf m s) out gains))
-  takes n = rw not-refused (reply-takes inside l out answers n)
+  takes n = rw (not-refused, pair-first s (womanOf m s)) (reply-takes inside l out answers n)
 
   pub gains-are : (InEvery b m s → ⊥) → Gained b m (written b (repairMatching b m (pairOf m s) out gains)) (repairGains b m (pairOf m s) out gains)
-  gains-are n = rw not-refused (reply-gains inside l out gains answers n)
+  gains-are n = rw (not-refused, pair-first s (womanOf m s)) (reply-gains inside l out gains answers n)
 
-pub grade-is : (b m : List ℕ) → checkMatching b m ≡ fine → (g : ℕ) × (gradeReply b m ≡ grade g) × Covers b m g × ((h : ℕ) → Covers b m h → g ≤ h)
+pub grade-is : (b m : List ℕ) → checkMatching b m ≡ fine → (g : ℕ) × (gradeReply b m ≡ gives g) × Covers b m g × ((h : ℕ) → Covers b m h → g ≤ h)
 grade-is b m f =
     let S = fine-stable b m .0 f in
-    (gradeOf b m, ap (λ (v : Verdict). replyIf v (grade (gradeOf b m))) f, grade-covers S, grade-least S)
+    (gradeOf b m, sym (after-fine f refl refl), grade-covers S, grade-least S)

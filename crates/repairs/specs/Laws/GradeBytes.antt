@@ -1,4 +1,5 @@
--- The grade of a book and a matching, of bytes: the least number that covers every pair that is not fixed. Assumes nothing.
+-- The grade of a book and a matching, of bytes: the least number that covers every pair that is not fixed. Assumes
+-- nothing.
 use Prim.Native.Nat.{ℕ, _≤_, _<_}
 use mathlib.Core.Path.{_≡_, ap}
 use mathlib.Core.Bool.{Bool, not}
@@ -7,17 +8,17 @@ use native.Mathlib.Omega.{arith}
 use lib.Dec.{eqb}
 use Rattle.laws.specs.Choice.{pick, both}
 use Rattle.laws.specs.SumLaws.{sum-same}
-use Rattle.format.specs.Format.{byte, people}
+use Rattle.format.specs.Format.{people}
 use Rattle.stable_theory.specs.Repairs.Repair.{moved}
 use Rattle.stable_theory.specs.Repairs.Answer.{besides, Robust}
 use Rattle.stable_theory.specs.Repairs.Demand3Theory.{supermatch, supermatch-least}
 use Rattle.matchings.specs.BookMarket.{market, market-proper}
-use Rattle.matchings.specs.Matching.{vectorOf}
+use Rattle.matchings.specs.Matching.{vectorOf, MatchingIn, StableIn, womanOf}
 use Rattle.matchings.specs.Extreme.{matchingOf}
-use Rattle.matchings.specs.StableCheck.{MatchingIn, StableIn, fine-stable}
-use Rattle.matchings.specs.StableVector.{matching-of, vector-stable, vector-back}
+use Rattle.matchings.specs.Laws.StableCheck.{fine-stable}
+use Rattle.matchings.specs.Laws.StableVector.{matching-of, vector-stable, vector-back}
 use Rattle.repairs.specs.Grade.{gradeOf}
-use Rattle.repairs.specs.Laws.Bytes.{moved-byte}
+use Rattle.repairs.specs.Laws.Bytes.{moved-woman}
 use Rattle.repairs.specs.Laws.RepairBytes.{holds, parts-without, without-parts}
 use Rattle.repairs.specs.Laws.AnswerBytes.{every-fixed, fixed-every}
 use Rattle.repairs.specs.Promise.{movedBesides, Covers}
@@ -26,8 +27,8 @@ use Rattle.repairs.specs.Promise.{movedBesides, Covers}
 moved-besides : {b m k : List ℕ} → MatchingIn b m → MatchingIn b k → (s : ℕ) → movedBesides (people b) m k s ≡ besides (market b) (λ i. 1) (vectorOf b m) s (vectorOf b k)
 unfolding market besides
 moved-besides {b} {m} {k} A B s =
-    sum-same (people b) (λ i. pick (both (not (eqb i s)) (not (eqb (byte k i) (byte m i)))) 1 0) (λ i. pick (both (not (eqb i s)) (moved (vectorOf b m) (vectorOf b k) i)) 1 0)
-    (λ i u. ap (λ (t : Bool). pick {A = ℕ} (both (not (eqb i s)) t) 1 0) (moved-byte A B u))
+    sum-same (people b) (λ i. pick (both (not (eqb i s)) (not (eqb (womanOf k i) (womanOf m i)))) 1 0) (λ i. pick (both (not (eqb i s)) (moved (vectorOf b m) (vectorOf b k) i)) 1 0)
+    (λ i u. ap (λ (t : Bool). pick {A = ℕ} (both (not (eqb i s)) t) 1 0) (moved-woman A B u))
 
 -- and depends on the places alone
 besides-same : (b m : List ℕ) (s : ℕ) (k r : ℕ → ℕ) → ((i : ℕ) → i < people b → k i ≡ r i) → besides (market b) (λ i. 1) (vectorOf b m) s k ≡ besides (market b) (λ i. 1) (vectorOf b m) s r

@@ -1,20 +1,20 @@
--- Repairs from vectors to bytes and back: a stable vector without the pair is a stable matching without it, and the repair on a side is that
--- of bytes. Assumes nothing.
+-- Repairs from vectors to bytes and back: a stable vector without the pair is a stable matching without it, and the
+-- repair on a side is that of bytes. Assumes nothing.
 use Prim.Native.Nat.{ℕ, _<_}
 use mathlib.Core.Path.{refl, sym, _∙_}
 use mathlib.Core.List.{List}
-use Rattle.format.specs.Format.{byte, people}
+use Rattle.format.specs.Format.{people}
 use Rattle.format.specs.WellFormed.{WellFormed}
 use Rattle.stable_theory.specs.Stable.Market.{Market, Proper}
 use Rattle.stable_theory.specs.Stable.Vector.{Holds, Stable}
 use Rattle.stable_theory.specs.Matchings.MatchingLaws.{places-holds}
 use Rattle.stable_theory.specs.Repairs.Repair.{Parts}
 use Rattle.matchings.specs.BookMarket.{market, market-proper}
-use Rattle.matchings.specs.Matching.{vectorOf}
+use Rattle.matchings.specs.Matching.{vectorOf, MatchingIn, StableIn, womanOf}
 use Rattle.matchings.specs.Extreme.{matchingOf}
-use Rattle.matchings.specs.StableCheck.{MatchingIn, StableIn, fine-stable}
-use Rattle.matchings.specs.StableVector.{matching-in, matching-of, vector-stable, fine-vector, vector-fine, vector-back}
-use Rattle.repairs.specs.Laws.Bytes.{place-of, same-byte, vector-place}
+use Rattle.matchings.specs.Laws.StableCheck.{fine-stable}
+use Rattle.matchings.specs.Laws.StableVector.{matching-in, matching-of, vector-stable, fine-vector, vector-fine, vector-back}
+use Rattle.repairs.specs.Laws.Bytes.{place-of, same-woman, vector-place}
 use Rattle.repairs.specs.Promise.{Without, Repaired}
 
 -- The repair on one side, of vectors: IsUp and IsDown with the relation of their side
@@ -39,7 +39,7 @@ module _ {b m : List ℕ} (S : StableIn b m) where
 
   module _ {s : ℕ} (l : s < people b) where
     -- student s has a mentor in m
-    pub holds : Holds (market b) (vectorOf b m) s (byte m s)
+    pub holds : Holds (market b) (vectorOf b m) s (womanOf m s)
     unfolding market
     holds = places-holds proper (matching-in within) l (within .names .below l) refl
 
@@ -48,7 +48,7 @@ module _ {b m : List ℕ} (S : StableIn b m) where
     parts-without K =
         record {
           stable = vector-fine formed (K .stable);
-          without = λ e. K .without (sym (vector-back formed (K .stable) l) ∙ same-byte within (matching-of formed (K .stable)) l .0 e);
+          without = λ e. K .without (sym (vector-back formed (K .stable) l) ∙ same-woman within (matching-of formed (K .stable)) l .0 e);
         }
 
     -- and back
@@ -56,7 +56,7 @@ module _ {b m : List ℕ} (S : StableIn b m) where
     without-parts k K =
         record {
           stable = fine-vector b k (K .stable);
-          without = λ e. K .without (same-byte within (fine-stable b k .0 (K .stable) .matching) l .1 e);
+          without = λ e. K .without (same-woman within (fine-stable b k .0 (K .stable) .matching) l .1 e);
         }
 
     -- the repair on a side, of vectors, is that of bytes

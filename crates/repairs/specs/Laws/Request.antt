@@ -1,26 +1,30 @@
--- The check of a request: a pair of the matching with room for its repair is not refused, and what is known where nothing is. Assumes nothing.
+-- The check of a request: a pair of the matching with room for its repair is not refused, and what is known where
+-- nothing is. Assumes nothing.
 use Prim.Native.Nat.{ℕ, _≤_, _<_}
 use mathlib.Core.Path.{_≡_, refl}
-use mathlib.Core.List.{List, [], _∷_}
+use mathlib.Core.List.{List}
 use mathlib.Core.Bool.{not}
 use lib.ListN.{length}
 use lib.Dec.{leb, ltb, eqb}
 use borrow.Author.Tests.{lt-leb, eq-eqb, le-ltb, leb-false, ltb-false, eqb-true, not-false}
 use Rattle.laws.specs.Choice.{either, either-none}
-use Rattle.format.specs.Verdict.{fine, rule, rule-fine}
-use Rattle.format.specs.Format.{byte}
-use Rattle.repairs.specs.Request.{checkPair}
+use Rattle.format.specs.Verdict.{fine, rule}
+use Rattle.format.specs.Laws.Verdict.{rule-fine}
+use Rattle.format.specs.Format.{pairRow}
+use Rattle.format.specs.Laws.Rows.{pair-first, pair-second, pair-long}
+use Rattle.matchings.specs.Matching.{womanOf}
+use Rattle.repairs.specs.Request.{askingMan, askingWoman, checkPair}
 
 -- student s and his mentor, with room
-pub pair-fine : (n : ℕ) (m : List ℕ) (s room gainsRoom : ℕ) → s < n → byte m s < n → n ≤ room → n ≤ gainsRoom → checkPair n m (s ∷ byte m s ∷ []) room gainsRoom ≡ fine
+pub pair-fine : (n : ℕ) (m : List ℕ) (s room gainsRoom : ℕ) → s < n → womanOf m s < n → n ≤ room → n ≤ gainsRoom → checkPair n m (pairRow s (womanOf m s)) room gainsRoom ≡ fine
 unfolding checkPair
 pair-fine n m s room gainsRoom u v h k =
-    rw (lt-leb n s u, lt-leb n (byte m s) v, eq-eqb (byte m s) (byte m s) refl, le-ltb room n h, le-ltb gainsRoom n k)
+    rw (pair-long, pair-first, pair-second, lt-leb n s u, lt-leb n (womanOf m s) v, eq-eqb (womanOf m s) (womanOf m s) refl, le-ltb room n h, le-ltb gainsRoom n k)
 
 -- What is known of a request that is not refused
 pub record Asked (n : ℕ) (q : List ℕ) (room gainsRoom : ℕ) : Type 0 where
   pub two : length q ≡ 2
-  pub student : byte q 0 < n
+  pub student : askingMan q < n
   pub room-fits : n ≤ room
   pub gains-fit : n ≤ gainsRoom
 
@@ -28,13 +32,13 @@ pub asked : (n : ℕ) (m q : List ℕ) (room gainsRoom : ℕ) → checkPair n m 
 unfolding checkPair
 asked n m q room gainsRoom e =
     let short = either (ltb room n) (ltb gainsRoom n) in
-    let apart = not (eqb (byte m (byte q 0)) (byte q 1)) in
-    let unknown = either (leb n (byte q 0)) (leb n (byte q 1)) in
+    let apart = not (eqb (womanOf m (askingMan q)) (askingWoman q)) in
+    let unknown = either (leb n (askingMan q)) (leb n (askingWoman q)) in
     let last = rule short 14 0 fine in
     let a = rule-fine (not (eqb (length q) 2)) 13 0 (rule unknown 11 0 (rule apart 12 0 last)) e in
     let k = rule-fine unknown 11 0 (rule apart 12 0 last) (a .1) in
     let c = rule-fine apart 12 0 last (k .1) in
     let d = rule-fine short 14 0 fine (c .1) in
-    let s = either-none (leb n (byte q 0)) (leb n (byte q 1)) (k .0) in
+    let s = either-none (leb n (askingMan q)) (leb n (askingWoman q)) (k .0) in
     let r = either-none (ltb room n) (ltb gainsRoom n) (d .0) in
     record { two = eqb-true _ _ (not-false _ (a .0)); student = leb-false _ _ (s .0); room-fits = ltb-false _ _ (r .0); gains-fit = ltb-false _ _ (r .1) }

@@ -1,44 +1,28 @@
--- A rotation written into a list of numbers, as document 01 writes it: its number of pairs, then man and woman of each. Assumes nothing.
+-- Laws on rotations that stand in a list of numbers: they are those that were written, and may be eliminated.
+-- Assumes nothing.
 use Prim.Native.Nat.{ℕ, zero, suc, _+_, _*_, _≤_, _<_}
 use mathlib.Core.Path.{_≡_, refl, sym, _∙_, ap}
 use mathlib.Core.List.{List}
 use native.Mathlib.Omega.{arith}
-use lib.Dec.{eqb}
 use lib.ListN.{length}
 use borrow.Author.Tests.{eq-eqb, ne-eqb}
-use Rattle.laws.specs.Choice.{pick, split}
+use Rattle.laws.specs.Choice.{split}
 use Rattle.laws.specs.Values.{vec}
 use Rattle.stable_theory.specs.Stable.Market.{Market, Proper}
 use Rattle.stable_theory.specs.Stable.Vector.{Stable}
 use Rattle.stable_theory.specs.Stable.Holding.{holder-unique}
 use Rattle.stable_theory.specs.Rotations.Rotation.{Rotation, Exposed, SamePairs}
 use Rattle.stable_theory.specs.Rotations.Eliminate.{follower-one}
+use Rattle.rotation_elimination.specs.Written.{around, rotationIn, Written, offset, Lists}
+use Rattle.rotation_elimination.specs.Elimination.{Turnable}
 
--- number k of a cycle of c pairs, in which number c is number 0 again
-abbrev pub around : ℕ → ℕ → ℕ
-around c k = pick (eqb k c) 0 k
-
+-- number k below c is itself
 pub around-inside : {c k : ℕ} → k < c → around c k ≡ k
 around-inside {c} {k} h = rw (ne-eqb k c (λ e. omega arith))
 
+-- and number c is 0
 pub around-end : (c : ℕ) → around c c ≡ 0
 around-end c = rw (eq-eqb c c refl)
-
--- The rotation that stands in a list from index `at` on
-unfoldable pub rotationIn : List ℕ → ℕ → Rotation
-rotationIn l at =
-    record {
-      pairs = vec l at;
-      man = λ k. vec l (at + 1 + 2 * around (vec l at) k);
-      woman = λ k. vec l (at + 2 + 2 * around (vec l at) k);
-    }
-
--- The rotation ρ stands in the list l from index `at` on
-pub record Written (l : List ℕ) (at : ℕ) (ρ : Rotation) : Type 0 where
-  pub pairs : vec l at ≡ ρ .pairs
-  pub man : {k : ℕ} → k < ρ .pairs → vec l (at + 1 + 2 * k) ≡ ρ .man k
-  pub woman : {k : ℕ} → k < ρ .pairs → vec l (at + 2 + 2 * k) ≡ ρ .woman k
-  pub room : at + 1 + 2 * ρ .pairs ≤ length l
 
 -- what stands there is the rotation
 pub written-in : {l : List ℕ} {at : ℕ} {ρ : Rotation} → Written l at ρ → {I : Market} {p : ℕ → ℕ} → Exposed I p ρ → SamePairs (rotationIn l at) ρ
@@ -79,12 +63,7 @@ written-kept m {at} end W h e same =
       room = omega (arith, W .room);
     }
 
--- where rotation number k starts in the list of rotations
-abbrev pub offset : (ℕ → Rotation) → ℕ → ℕ
-offset ρ zero = 0
-offset ρ (suc k) = offset ρ k + (1 + 2 * ρ k .pairs)
-
--- each takes one number at least
+-- each rotation takes one number at least
 pub offset-ge : (ρ : ℕ → Rotation) (k : ℕ) → k ≤ offset ρ k
 offset-ge ρ zero = omega arith
 offset-ge ρ (suc k) = omega (arith, offset-ge ρ k)
@@ -95,12 +74,7 @@ offset-after ρ zero h = absurd (omega arith)
 offset-after ρ {j} (suc k) h =
     split k j (λ g. let e : j ≡ k = omega arith in rw e (omega arith)) (λ g. omega (arith, offset-after ρ {j = j} k g))
 
--- The first k rotations stand in the list, end to end, and end at index `end`
-pub record Lists (ρ : ℕ → Rotation) (k : ℕ) (l : List ℕ) (end : ℕ) : Type 0 where
-  pub ends : end ≡ offset ρ k
-  pub written : {j : ℕ} → j < k → Written l (offset ρ j) (ρ j)
-
--- none stands in it
+-- no rotation stands in a list
 pub lists-none : (ρ : ℕ → Rotation) (l : List ℕ) → Lists ρ 0 l 0
 lists-none ρ l = record { ends = refl; written = λ h. absurd (omega arith) }
 
@@ -128,14 +102,7 @@ lists-same {ρ} {σ} {k} s L =
     starts zero h = refl
     starts (suc j) h = omega (arith, starts j (omega arith), s j h .pairs)
 
--- What may be eliminated: the men are different ones below a, and so are the women below b
-pub record Turnable (a b : ℕ) (ρ : Rotation) : Type 0 where
-  pub men : {k : ℕ} → k < ρ .pairs → ρ .man k < a
-  pub women : {k : ℕ} → k < ρ .pairs → ρ .woman (suc k) < b
-  pub men-once : (j k : ℕ) → j < k → k < ρ .pairs → ρ .man j ≡ ρ .man k → ⊥
-  pub women-once : (j k : ℕ) → j < k → k < ρ .pairs → ρ .woman (suc j) ≡ ρ .woman (suc k) → ⊥
-
--- an exposed rotation may be
+-- an exposed rotation may be eliminated
 pub exposed-turnable : {I : Market} → Proper I → {p : ℕ → ℕ} {ρ : Rotation} → Stable I p → Exposed I p ρ → Turnable (I .proposers .size) (I .receivers .size) ρ
 exposed-turnable {I} M {p} {ρ} P X =
     record {

@@ -1,12 +1,12 @@
 -- The numbering of a record is that of its book: what the functions on books read from it. Assumes nothing.
 use Prim.Native.Nat.{ℕ, _≤_, _<_}
-use mathlib.Core.Path.{_≡_}
-use mathlib.Core.List.{List}
+use mathlib.Core.Path.{_≡_, sym, _∙_, ap₂}
+use mathlib.Core.List.{List, _++_}
 use native.Mathlib.Omega.{arith}
-use lib.ListN.{length, take}
+use lib.ListN.{length, take, drop}
+use Rattle.format.specs.Record.{Record}
 use Rattle.laws.specs.Values.{vec}
-use Rattle.format.specs.declared.record.Instance.{Instance}
-use Rattle.format.specs.Format.{people}
+use Rattle.format.specs.Format.{largest, people}
 use Rattle.stable_theory.specs.Stable.Vector.{Stable}
 use Rattle.stable_theory.specs.Least.Optimal.{proposer-optimal}
 use Rattle.stable_theory.specs.Rotations.Rotation.{Exposed}
@@ -16,13 +16,13 @@ use Rattle.stable_theory.specs.Rotations.Canonical.{rotations-complete}
 use Rattle.stable_theory.specs.Rotations.Rebuild.{run-vector}
 use Rattle.matchings.specs.BookMarket.{market, market-proper, market-complete}
 use Rattle.rotation_numbering.specs.declared.numbering.Extent.{Extent}
-use Rattle.rotation_numbering.specs.Laws.RunCode.{Numbered}
-use Rattle.rotation_numbering.specs.Laws.Numbers.{NumberingOf, numbering-book}
+use Rattle.rotation_numbering.specs.Numbering.{Numbered, NumberingOf}
+use Rattle.rotation_numbering.specs.Laws.Numbers.{numbering-book}
 use Rattle.rotations.specs.RotationList.{listBytes}
 use Rattle.rotation_numbering.specs.Laws.ListBytes.{Small, exposed-small, lists-bytes, lists-long, lists-within, lists-small}
-use Rattle.rotation_list.specs.Laws.Replies.{Read}
+use Rattle.instances.specs.Laws.Read.{Read}
 
-module _ {b : List ℕ} {r : Instance} (R : Read b r) where
+module _ {b : List ℕ} {r : Record} (R : Read b r) where
   -- the vector that exposes rotation number j is stable
   pub before-stable : (j : ℕ) → j ≤ total (market b) → Stable (market b) (prefix (market b) (rotation (market b)) (proposer-optimal (market b)) j)
   before-stable j h = run-vector (market-proper (R .formed)) (rotations-complete (market-proper (R .formed))) j h
@@ -43,7 +43,7 @@ module _ {b : List ℕ} {r : Instance} (R : Read b r) where
     book-numbered = numbering-book (R .formed) (R .tables) N
 
     -- its numbers are the bytes of the list
-    pub list-bytes : take (s .end) numbers ≡ listBytes b
+    list-bytes : take (s .end) numbers ≡ listBytes b
     unfolding listBytes
     list-bytes = lists-bytes (book-numbered .lists)
 
@@ -52,9 +52,13 @@ module _ {b : List ℕ} {r : Instance} (R : Read b r) where
     unfolding listBytes
     list-long = lists-long (book-numbered .lists)
 
+    -- so a copy of them is the list
+    pub list-written : (out : List ℕ) {after : List ℕ} → after ≡ take (s .end) numbers ++ drop (s .end) out → after ≡ listBytes b ++ drop (length (listBytes b)) out
+    list-written out e = e ∙ ap₂ (λ (l : List ℕ) (n : ℕ). l ++ drop n out) list-bytes (sym list-long)
+
     pub list-within : s .end ≤ length numbers
     list-within = lists-within (book-numbered .lists)
 
-    -- and each fits a byte
-    pub list-small : (v : ℕ) → v < s .end → vec numbers v < 256
+    -- and each is an entry
+    pub list-small : (v : ℕ) → v < s .end → vec numbers v ≤ largest
     list-small v u = omega (arith, lists-small (book-numbered .lists) numbered-small v u, R .formed .few)

@@ -12,7 +12,7 @@ use Rattle.stable_theory.specs.Stable.Vector.{Stable}
 use Rattle.stable_theory.specs.Rotations.Rotation.{Rotation, Exposed}
 use Rattle.stable_theory.specs.Rotations.Eliminate.{holds-pair}
 use Rattle.stable_theory.specs.Rotations.Choose.{exposed-short}
-use Rattle.rotation_elimination.specs.Laws.Written.{Written, Lists, offset}
+use Rattle.rotation_elimination.specs.Written.{Written, Lists, offset}
 use Rattle.rotations.specs.RotationList.{pairBytes, rotationBytes, bytesUpto}
 
 -- what is taken from index i on begins with the element there

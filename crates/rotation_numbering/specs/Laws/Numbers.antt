@@ -4,39 +4,31 @@ use mathlib.Core.Path.{_≡_, sym, _∙_}
 use mathlib.Core.List.{List}
 use native.Mathlib.Omega.{arith}
 use native.Mathlib.Nat.{mul-le-mul}
-use lib.ListN.{length, take}
+use lib.ListN.{take}
 use lib.Seq.{getD-take, length-take-le}
+use Rattle.tables.specs.Lists.{Sized}
+use Rattle.format.specs.Record.{Record, RecordIs}
+use Rattle.instances.specs.Usable.{Usable, marketIn}
+use Rattle.instances.specs.Laws.BookTables.{usable, usable-alike}
+use Rattle.extremes.specs.Places.{PlacesIn}
 use Rattle.laws.specs.Values.{vec}
 use Rattle.laws.specs.Padded.{zeros, zeros-taken}
-use Rattle.format.specs.declared.record.Instance.{Instance}
 use Rattle.format.specs.Format.{largest, people}
 use Rattle.format.specs.WellFormed.{WellFormed}
-use Rattle.format.specs.Record.{Tables}
 use Rattle.stable_theory.specs.Stable.Holding.{Same, stable-same}
 use Rattle.stable_theory.specs.Stable.Alike.{alike-refl, mirror-alike}
 use Rattle.stable_theory.specs.Least.Optimal.{proposer-optimal}
 use Rattle.stable_theory.specs.Rotations.Numbering.{total}
 use Rattle.stable_theory.specs.Rotations.RotationAlike.{rotations-alike}
-use Rattle.proposals.specs.Lists.{Sized}
 use Rattle.matchings.specs.declared.places.Places.{Places}
 use Rattle.matchings.specs.BookMarket.{market, market-proper}
-use Rattle.extremes.specs.Usable.{Usable, marketIn, usable, usable-alike}
-use Rattle.extremes.specs.ExtremePlaces.{PlacesOf}
 use Rattle.rotation_numbering.specs.declared.numbering.Extent.{Extent}
-use Rattle.rotation_search.specs.Laws.Pointers.{State, advanced-start}
+use Rattle.rotation_search.specs.Pointers.{State}
+use Rattle.rotation_search.specs.Laws.Pointers.{advanced-start}
 use Rattle.rotation_elimination.specs.Laws.Written.{lists-same}
-use Rattle.rotation_numbering.specs.Laws.RunCode.{Numbered}
+use Rattle.rotation_numbering.specs.Numbering.{Numbered, listRoom, NumberingOf}
 
--- how many numbers the list has room for: two and a half for each place of the largest book
-abbrev pub listRoom : ℕ
-listRoom = 10240
-
--- The list holds all rotations of a record's market
-pub record NumberingOf (r : Instance) (numbers : List ℕ) (s : Extent) : Type 0 where
-  pub numbered : Numbered (marketIn r) numbers (s .count) (s .end)
-  pub long : length numbers ≡ listRoom
-
-module _ {r : Instance} (U : Usable r) {s : Places} (P : PlacesOf r (proposer-optimal (marketIn r)) s) where
+module _ {r : Record} (U : Usable r) {s : Places} (P : PlacesIn (r .n) (marketIn r) (proposer-optimal (marketIn r)) s) where
   -- the first n places are those of the record's persons
   men-front : Same (marketIn r) (vec (s .men)) (vec (take (r .n) (s .men)))
   men-front i u = sym (getD-take (r .n) (s .men) i 0 u)
@@ -62,10 +54,10 @@ module _ {r : Instance} (U : Usable r) {s : Places} (P : PlacesOf r (proposer-op
       record { stable = S; mirror = N; advanced = advanced-start (U .men .proper) S N (zeros-taken largest (r .n)) }
 
 -- and of the list
-pub run-room : {r : Instance} → Usable r → 5 * (r .n * r .n) ≤ 2 * listRoom
+pub run-room : {r : Record} → Usable r → 5 * (r .n * r .n) ≤ 2 * listRoom
 run-room U = omega (arith, mul-le-mul (U .few) (U .few))
 
-module _ {b : List ℕ} {r : Instance} (W : WellFormed b) (T : Tables b (people b) r) where
+module _ {b : List ℕ} {r : Record} (W : WellFormed b) (T : RecordIs b (people b) r) where
   -- the record's market has as many rotations as the book's
   pub total-book : total (marketIn r) ≡ total (market b)
   total-book = rotations-alike (usable W T .men .proper) (market-proper W) (usable-alike W T) .0

@@ -1,10 +1,11 @@
--- What the code that finds all rotations computes: turn by turn the exposed rotation that holds the lowest proposer is written and
--- eliminated, until none is exposed. Assumes nothing.
+-- What the code that finds all rotations computes: turn by turn the exposed rotation that holds the lowest proposer is
+-- written and eliminated, until none is exposed. Assumes nothing.
 use Prim.Native.Nat.{ℕ, suc, _+_, _*_, _≤_, _<_}
 use mathlib.Core.Path.{_≡_, refl, sym, _∙_}
 use mathlib.Core.List.{List}
 use native.Mathlib.Omega.{arith}
 use lib.ListN.{length}
+use Rattle.tables.specs.Lists.{tablesOf, Sound, Sized, marketOf}
 use Rattle.laws.specs.Sum.{sum}
 use Rattle.laws.specs.SumLaws.{sum-le, sum-same}
 use Rattle.laws.specs.Rising.{sum-many, sum-const}
@@ -29,38 +30,19 @@ use Rattle.stable_theory.specs.Rotations.Rebuild.{prefix-on}
 use Rattle.stable_theory.specs.Rotations.Canonical.{rotations-canonical}
 use Rattle.stable_theory.specs.Rotations.CanonicalStep.{step-on, step-is, step-end}
 use Rattle.stable_theory.specs.Rotations.RotationAlike.{eliminate-same}
-use Rattle.proposals.specs.Lists.{Tables, marketOf}
-use Rattle.rotation_search.specs.Laws.Pointers.{Advanced, State, advanced-better}
-use Rattle.rotation_elimination.specs.Laws.Written.{rotationIn, Written, Lists, written-in, written-same, lists-none, lists-more, exposed-turnable, turnable-same}
-use Rattle.rotation_elimination.specs.Laws.EliminateCode.{Eliminating, Eliminable, men-eliminated, women-turned}
-use Rattle.rotation_elimination.specs.Laws.WriteCode.{WroteCycle, cycle-exposed}
-
--- The rotation to be eliminated next
-abbrev pub lowestRotation : Market → (ℕ → ℕ) → Rotation
-lowestRotation I p = rotationAt I p (lowest I p)
-
--- One turn from p: the lowest rotation is written at `at`, what stands before is kept, and q, u, next are the state after its elimination
-pub record OneTurn (I : Market) (p : ℕ → ℕ) (before : List ℕ) (at : ℕ) (q u next : ℕ → ℕ) (l : List ℕ) (c : ℕ) : Type 0 where
-  pub found : lowest I p < I .proposers .size
-  pub pairs : c ≡ lowestRotation I p .pairs
-  pub written : Written l at (lowestRotation I p)
-  pub kept : (v : ℕ) → v < at → vec l v ≡ vec before v
-  pub moved : Same I q (eliminate I (lowestRotation I p) p)
-  pub state : State I q u next
-
--- The answer of a turn: no rotation is exposed, and nothing is written; or one turn
-pub data Turned (I : Market) (p : ℕ → ℕ) (before : List ℕ) (at : ℕ) (q u next : ℕ → ℕ) (l : List ℕ) (c : ℕ) : Type 0 where
-  none : I .proposers .size ≤ lowest I p → c ≡ 0 → l ≡ before → Turned I p before at q u next l c
-  one : OneTurn I p before at q u next l c → Turned I p before at q u next l c
-
--- room for the rotations to come: the list holds two and a half numbers for each place
-pub record Room (a b : ℕ) (p : ℕ → ℕ) (at : ℕ) (l : List ℕ) : Type 0 where
-  pub used : 2 * at ≤ 5 * sum a p
-  pub whole : 5 * (a * b) ≤ 2 * length l
+use Rattle.rotation_search.specs.Pointers.{Advanced, State}
+use Rattle.rotation_search.specs.Laws.Pointers.{advanced-better}
+use Rattle.rotation_elimination.specs.Written.{rotationIn, Written, Lists, WroteCycle}
+use Rattle.rotation_elimination.specs.Elimination.{Turnable, Eliminating, Eliminable}
+use Rattle.rotation_elimination.specs.Laws.Written.{offset-ge, written-in, written-same, lists-none, lists-more, exposed-turnable, turnable-same}
+use Rattle.rotation_elimination.specs.Laws.EliminateCode.{men-eliminated, women-turned}
+use Rattle.rotation_elimination.specs.Laws.WriteCode.{cycle-exposed}
+use Rattle.rotation_numbering.specs.Laws.ListBytes.{lists-within}
+use Rattle.rotation_numbering.specs.Numbering.{lowestRotation, OneTurn, Turned, none, one, Room, Numbered}
 
 module _ {I : Market} (M : Proper I) {p : ℕ → ℕ} {ρ : Rotation} (X : Exposed I p ρ) where
   -- an elimination raises the sum of the places by one a pair at least
-  pub sum-raised : sum (I .proposers .size) p + ρ .pairs ≤ sum (I .proposers .size) (eliminate I ρ p)
+  sum-raised : sum (I .proposers .size) p + ρ .pairs ≤ sum (I .proposers .size) (eliminate I ρ p)
   sum-raised =
       sum-many (I .proposers .size) p (eliminate I ρ p) (ρ .man) (ρ .pairs) (eliminate-after X) (λ k h. X .next h .pair .proposer) (X .distinct)
       (λ k h. turn-moved X (turn-at X k h))
@@ -76,14 +58,14 @@ sum-within {I} {p} b P short =
 
 -- so there is room for a rotation that is exposed, and for what comes after it
 module _ {I : Market} (M : Proper I) {p : ℕ → ℕ} (P : Stable I p) {ρ : Rotation} (X : Exposed I p ρ) {at b : ℕ} {l : List ℕ} (R : Room (I .proposers .size) b p at l) where
-  pub room-after : {q : ℕ → ℕ} → Same I q (eliminate I ρ p) → {m : List ℕ} → length m ≡ length l → {c : ℕ} → c ≡ ρ .pairs → Room (I .proposers .size) b q (at + (1 + 2 * c)) m
+  room-after : {q : ℕ → ℕ} → Same I q (eliminate I ρ p) → {m : List ℕ} → length m ≡ length l → {c : ℕ} → c ≡ ρ .pairs → Room (I .proposers .size) b q (at + (1 + 2 * c)) m
   room-after {q} e {m} s d =
       record {
         used = omega (arith, R .used, sum-raised M X, two-pairs X, sum-same (I .proposers .size) q (eliminate I ρ p) e);
         whole = omega (arith, R .whole);
       }
 
-  pub room-now : ((i : ℕ) → i < I .proposers .size → I .proposers .len i ≤ b) → at + 1 + 2 * ρ .pairs ≤ length l
+  room-now : ((i : ℕ) → i < I .proposers .size → I .proposers .len i ≤ b) → at + 1 + 2 * ρ .pairs ≤ length l
   room-now short =
       omega (arith, R .used, R .whole, sum-raised M X, two-pairs X, sum-within b (eliminate-stable M P X) short)
 
@@ -97,69 +79,78 @@ turned-same {I} {ρ} {σ} {t} {u} s B =
       kept = λ w f. B .kept w (λ k h e. f k (omega (arith, s .pairs)) (e ∙ s .woman (suc k) h));
     }
 
-module _ {a b : ℕ} {plens plists rlens rlists pranks rranks : List ℕ} (T : Tables a b plens plists rlens rlists rranks) (U : Tables b a rlens rlists plens plists pranks) where
-  module _ (p t : List ℕ) {σ : Rotation} {l : List ℕ} {at : ℕ} (P : Stable (marketOf a b plens plists rlens rlists) (vec p)) (X : Exposed (marketOf a b plens plists rlens rlists) (vec p) σ) (W : Written l at σ) where
-    -- what stands in the list is the rotation
-    same-in : SamePairs (rotationIn l at) σ
-    same-in = written-in W X
+module _ {a b : ℕ} {plists rlists rranks : List ℕ} (T : Sound (tablesOf a b plists rlists rranks)) (p : List ℕ) {x : ℕ} (h : x < a) (e : x ≡ lowest (marketOf a b plists rlists) (vec p)) (P : Stable (marketOf a b plists rlists) (vec p)) where
+  -- the cycle of x is an exposed rotation
+  exposed : Exposed (marketOf a b plists rlists) (vec p) (rotationAt (marketOf a b plists rlists) (vec p) x)
+  exposed = cycle-exposed (T .proper) (vec p) h e
 
-    -- so it may be eliminated
-    pub written-eliminable : length p ≡ a → length t ≡ b → Eliminable a b pranks rranks l at p t
-    written-eliminable ep et =
-        record {
-          turnable = turnable-same (same-sym same-in) (exposed-turnable (T .proper) P X);
-          room = omega (arith, W .room, W .pairs);
-          places = ep;
-          bests = et;
-          man-ranks = U .ranked;
-          woman-ranks = T .ranked;
-        }
+  -- for which there is room
+  pub cycle-room : {at : ℕ} {l : List ℕ} → Room a b (vec p) at l → at + 1 + 2 * rotationAt (marketOf a b plists rlists) (vec p) x .pairs ≤ length l
+  cycle-room R = room-now (T .proper) P exposed R (λ i u. T .proposers .short u)
 
-    module _ {q u : List ℕ} (E : Eliminating a b pranks rranks (rotationIn l at) p t (vec l at) q u) where
-      -- the men are moved
-      pub written-moved : Same (marketOf a b plens plists rlens rlists) (vec q) (eliminate (marketOf a b plens plists rlens rlists) σ (vec p))
-      unfolding rotationIn
-      written-moved i v =
-          let I = marketOf a b plens plists rlens rlists in
-          let R = turnable-same (same-sym same-in) (exposed-turnable (T .proper) P X) in
-          men-eliminated E I (λ k h. U .agrees .rank (R .men h) (R .women h)) i ∙ eliminate-same I same-in (vec p) i
+  module _ {pranks : List ℕ} (U : Sound (tablesOf b a rlists plists pranks)) (t : List ℕ) where
+    module _ {l : List ℕ} {at : ℕ} (W : Written l at (rotationAt (marketOf a b plists rlists) (vec p) x)) where
+      -- what stands in the list is the rotation
+      same-in : SamePairs (rotationIn l at) (rotationAt (marketOf a b plists rlists) (vec p) x)
+      same-in = written-in W exposed
 
-      -- and the women turned
-      written-turned : TurnedBack (marketOf a b plens plists rlens rlists) σ (vec t) (vec u)
-      unfolding rotationIn
-      written-turned =
-          let R = turnable-same (same-sym same-in) (exposed-turnable (T .proper) P X) in
-          turned-same same-in (women-turned E (marketOf a b plens plists rlens rlists) (λ k h. T .agrees .rank (R .women h) (R .men h)))
+      -- so it may be eliminated
+      turnable-in : Turnable a b (rotationIn l at)
+      turnable-in = turnable-same (same-sym same-in) (exposed-turnable (T .proper) P exposed)
 
-      -- which gives the next state
-      pub written-state : {next : ℕ → ℕ} → Mirror (marketOf a b plens plists rlens rlists) (vec p) (vec t) → Advanced (marketOf a b plens plists rlens rlists) (vec t) next →
-          State (marketOf a b plens plists rlens rlists) (vec q) (vec u) next
-      written-state N A =
-          let I = marketOf a b plens plists rlens rlists in
-          let e = vector-sym (T .proper) written-moved in
+      pub written-eliminable : Sized a b p t → Eliminable a b pranks rranks l at p t
+      written-eliminable Z =
           record {
-            stable = stable-same _ _ e (eliminate-stable (T .proper) P X);
-            mirror = mirror-alike (alike-refl I) e (λ w v. refl) (eliminate-mirror (T .proper) P N X written-turned);
-            advanced = advanced-better (eliminate-mirror-before (T .proper) P N X written-turned) A;
+            turnable = turnable-in;
+            room = omega (arith, W .room, W .pairs);
+            places = Z .places;
+            bests = Z .bests;
+            man-ranks = U .ranked;
+            woman-ranks = T .ranked;
           }
 
-  -- what was written and eliminated is one turn
-  pub one-turn :
-      (p t : List ℕ) {x : ℕ} → x < a → x ≡ lowest (marketOf a b plens plists rlens rlists) (vec p) → {next after : ℕ → ℕ} →
-      State (marketOf a b plens plists rlens rlists) (vec p) (vec t) next → {before l : List ℕ} {at c : ℕ} →
-      WroteCycle (marketOf a b plens plists rlens rlists) (vec p) (vec t) x after before l at c → {q u : List ℕ} →
-      Eliminating a b pranks rranks (rotationIn l at) p t (vec l at) q u → Turned (marketOf a b plens plists rlens rlists) (vec p) before at (vec q) (vec u) after l c
-  one-turn p t {x} h e Q W E =
-      let I = marketOf a b plens plists rlens rlists in
-      let X = cycle-exposed (T .proper) (vec p) h e in
-      one (record {
-        found = rw (← e) h;
-        pairs = rw (← e) (W .pairs);
-        written = rw (← e) (W .written);
-        kept = W .kept;
-        moved = rw (← e) (written-moved p t (Q .stable) X (W .written) E);
-        state = written-state p t (Q .stable) X (W .written) E (Q .mirror) (W .advanced);
-      })
+      module _ {q u : List ℕ} (E : Eliminating a b pranks rranks (rotationIn l at) p t (vec l at) q u) where
+        -- the men are moved
+        written-moved : Same (marketOf a b plists rlists) (vec q) (eliminate (marketOf a b plists rlists) (rotationAt (marketOf a b plists rlists) (vec p) x) (vec p))
+        unfolding rotationIn
+        written-moved i v =
+            let I = marketOf a b plists rlists in
+            let R = turnable-in in
+            men-eliminated E I (λ k g. U .agrees .rank (R .men g) (R .women g)) i ∙ eliminate-same I same-in (vec p) i
+
+        -- and the women turned
+        written-turned : TurnedBack (marketOf a b plists rlists) (rotationAt (marketOf a b plists rlists) (vec p) x) (vec t) (vec u)
+        unfolding rotationIn
+        written-turned =
+            let R = turnable-in in
+            turned-same same-in (women-turned E (marketOf a b plists rlists) (λ k g. T .agrees .rank (R .women g) (R .men g)))
+
+        -- which gives the next state
+        written-state : {next : ℕ → ℕ} → Mirror (marketOf a b plists rlists) (vec p) (vec t) → Advanced (marketOf a b plists rlists) (vec t) next →
+            State (marketOf a b plists rlists) (vec q) (vec u) next
+        written-state N A =
+            let I = marketOf a b plists rlists in
+            let z = vector-sym (T .proper) written-moved in
+            record {
+              stable = stable-same _ _ z (eliminate-stable (T .proper) P exposed);
+              mirror = mirror-alike (alike-refl I) z (λ w v. refl) (eliminate-mirror (T .proper) P N exposed written-turned);
+              advanced = advanced-better (eliminate-mirror-before (T .proper) P N exposed written-turned) A;
+            }
+
+    -- what was written and eliminated is one turn
+    pub one-turn :
+        Mirror (marketOf a b plists rlists) (vec p) (vec t) → {next : ℕ → ℕ} {before l : List ℕ} {at c : ℕ} →
+        WroteCycle (marketOf a b plists rlists) (vec p) (vec t) x next before l at c → {q u : List ℕ} →
+        Eliminating a b pranks rranks (rotationIn l at) p t (vec l at) q u → OneTurn (marketOf a b plists rlists) (vec p) before at (vec q) (vec u) next l c
+    one-turn N W E =
+        record {
+          found = rw (← e) h;
+          pairs = rw (← e) (W .pairs);
+          written = rw (← e) (W .written);
+          kept = W .kept;
+          moved = rw (← e) (written-moved (W .written) E);
+          state = written-state (W .written) E N (W .advanced);
+        }
 
 -- What the loop over all rotations knows: k of them are found and written, and p, t, next are the state after them
 pub record Running (I : Market) (b k at : ℕ) (p t next : ℕ → ℕ) (l : List ℕ) : Type 0 where
@@ -169,62 +160,43 @@ pub record Running (I : Market) (b k at : ℕ) (p t next : ℕ → ℕ) (l : Lis
   pub lists : Lists (rotation I) k l at
   pub room : Room (I .proposers .size) b p at l
 
--- The answer: the list holds all rotations, and ends at `end`
-pub record Numbered (I : Market) (l : List ℕ) (k end : ℕ) : Type 0 where
-  pub count : k ≡ total I
-  pub lists : Lists (rotation I) (total I) l end
-
 -- before the first
-pub running-start : {I : Market} (b : ℕ) {p t next : ℕ → ℕ} (l : List ℕ) → Same I p (proposer-optimal I) → State I p t next → 5 * (I .proposers .size * b) ≤ 2 * length l → Running I b 0 0 p t next l
+pub running-start : {I : Market} {b : ℕ} {p t next : ℕ → ℕ} {l : List ℕ} → Same I p (proposer-optimal I) → State I p t next → 5 * (I .proposers .size * b) ≤ 2 * length l → Running I b 0 0 p t next l
 unfolding after
-running-start {I} b l e Q h =
+running-start {I} {l = l} e Q h =
     record { within = omega arith; reached = e; state = Q; lists = lists-none (rotation I) l; room = record { used = omega arith; whole = h } }
 
-module _ {I : Market} (M : Proper I) {p : ℕ → ℕ} {before : List ℕ} {at : ℕ} {q u next : ℕ → ℕ} {l : List ℕ} {c : ℕ} where
-  -- no pairs: no rotation is exposed
-  pub turned-none : Turned I p before at q u next l c → c ≡ 0 → (I .proposers .size ≤ lowest I p) × (l ≡ before)
-  turned-none (none h e f) z = (h, f)
-  turned-none (one O) z = absurd (omega (arith, O .pairs, lowest-exposed M p (O .found) .some))
+-- what is known of the numbers: each rotation takes one at least, and all fit
+pub running-bounds : {I : Market} {b k at : ℕ} {p t next : ℕ → ℕ} {l : List ℕ} → Running I b k at p t next l → (k ≤ total I) × (k ≤ at) × (at ≤ length l)
+running-bounds {I} {k = k} R = (R .within, omega (arith, R .lists .ends, offset-ge (rotation I) k), lists-within (R .lists))
 
-  -- some pairs: one turn
-  pub turned-one : Turned I p before at q u next l c → (c ≡ 0 → ⊥) → OneTurn I p before at q u next l c
-  turned-one (none h e f) z = absurd (z e)
-  turned-one (one O) z = O
-
-module _ {I : Market} (M : Proper I) {b k at : ℕ} {p t next : ℕ → ℕ} {l : List ℕ} (R : Running I b k at p t next l) where
+module _ {I : Market} (M : Proper I) {b k at : ℕ} {p t next : ℕ → ℕ} {l : List ℕ} (R : Running I b k at p t next l) {q u after : ℕ → ℕ} {m : List ℕ} {c : ℕ} where
   -- no rotation is exposed: all are found
-  pub running-end : I .proposers .size ≤ lowest I p → Numbered I l k at
-  running-end h =
+  pub running-end : Turned I p l at q u after m c → c ≡ 0 → Numbered I m k at
+  running-end (none h e f) z =
       let e : k ≡ total I = step-end M (rotations-canonical M) (R .within)
       (λ τ Y. let Z = exposed-agree M (vector-sym M (R .reached)) Y in
       omega (arith, lowest-upto M (R .state .stable .settled) Z 0 (omega arith), Z .next (Z .some) .pair .proposer)) in
-      record { count = e; lists = rw (← e) (R .lists) }
+      rw f (record { count = e; lists = rw (← e) (R .lists) })
+  running-end (one O) z = absurd (omega (arith, O .pairs, lowest-exposed M p (O .found) .some))
 
-  module _ {q u after : ℕ → ℕ} {m : List ℕ} {c : ℕ} (O : OneTurn I p l at q u after m c) where
-    -- the lowest rotation is exposed, and is the next by number
-    found-exposed : Exposed I p (lowestRotation I p)
-    found-exposed = lowest-exposed M p (O .found)
+  -- one more is found
+  turn-on : OneTurn I p l at q u after m c → length m ≡ length l → Running I b (k + 1) (at + (1 + 2 * c)) q u after m
+  turn-on O e =
+      let s : k + 1 ≡ suc k = omega arith in
+      let X = lowest-exposed M p (O .found) in
+      let Y = exposed-agree M (R .reached) X in
+      let z : SamePairs (lowestRotation I p) (rotation I k) = step-is M (rotations-canonical M) (R .within) Y
+      (λ τ Y. let Z = exposed-agree M (vector-sym M (R .reached)) Y in
+      omega (arith, rotationAt-first I p (lowest I p), lowest-upto M (R .state .stable .settled) Z 0 (omega arith))) in
+      record {
+        within = omega (arith, step-on M (rotations-canonical M) (R .within) Y);
+        reached = λ i v. rw s (O .moved i v ∙ (eliminate-same I z p i ∙ (eliminate-agree I (rotation I k) (R .reached) i v ∙ sym (prefix-on I (rotation I) (proposer-optimal I) k i))));
+        state = O .state;
+        lists = lists-more m (R .lists) e (O .kept) (written-same z (O .written)) (O .pairs ∙ z .pairs);
+        room = room-after M (R .state .stable) X (R .room) (O .moved) e (O .pairs);
+      }
 
-    found-next : SamePairs (lowestRotation I p) (rotation I k)
-    found-next =
-        let X = exposed-agree M (R .reached) found-exposed in
-        step-is M (rotations-canonical M) (R .within) X
-        (λ τ Y. let Z = exposed-agree M (vector-sym M (R .reached)) Y in
-        omega (arith, rotationAt-first I p (lowest I p), lowest-upto M (R .state .stable .settled) Z 0 (omega arith)))
-
-    -- fewer are left
-    pub running-less : k < total I
-    running-less = step-on M (rotations-canonical M) (R .within) (exposed-agree M (R .reached) found-exposed)
-
-    -- one more is found
-    pub running-on : length m ≡ length l → Running I b (k + 1) (at + (1 + 2 * c)) q u after m
-    running-on e =
-        let s : k + 1 ≡ suc k = omega arith in
-        let z = found-next in
-        record {
-          within = omega (arith, running-less);
-          reached = λ i v. rw s (O .moved i v ∙ (eliminate-same I z p i ∙ (eliminate-agree I (rotation I k) (R .reached) i v ∙ sym (prefix-on I (rotation I) (proposer-optimal I) k i))));
-          state = O .state;
-          lists = lists-more m (R .lists) e (O .kept) (written-same z (O .written)) (O .pairs ∙ z .pairs);
-          room = room-after M (R .state .stable) found-exposed (R .room) (O .moved) e (O .pairs);
-        }
+  pub running-on : Turned I p l at q u after m c → (c ≡ 0 → ⊥) → length m ≡ length l → Running I b (k + 1) (at + (1 + 2 * c)) q u after m
+  running-on (none h e f) z g = absurd (z e)
+  running-on (one O) z g = turn-on O g

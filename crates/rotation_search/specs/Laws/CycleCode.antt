@@ -8,40 +8,14 @@ use lib.ListN.{length, set}
 use Rattle.laws.specs.Choice.{split}
 use Rattle.laws.specs.Values.{vec}
 use Rattle.laws.specs.Cycle.{returns}
-use Rattle.laws.specs.Covered.{Covered, covered-less, covered-end}
+use Rattle.laws.specs.Covered.{covered-less, covered-end}
 use Rattle.laws.specs.Round.{Round, Lowest, round-start, round-first, round-on, round-inside, lowest-one, lowest-more, lowest-covers, lowest-returns}
 use Rattle.laws.specs.Walk.{Walk, Sought, walk-on, sought-walk, sought-end}
 use Rattle.stable_theory.specs.Stable.Market.{Market, Proper}
 use Rattle.stable_theory.specs.Rotations.Numbering.{followers, lowest}
 use Rattle.stable_theory.specs.Rotations.FollowLaws.{followers-at, follow-le, follow-end}
-use Rattle.rotation_search.specs.Laws.Pointers.{Advanced, State, FollowerIs}
-
--- The answer of a walk from x that marks with x + 1: it is at y, which is none or bears a mark
-pub record WalkedTo (I : Market) (p t : ℕ → ℕ) (x : ℕ) (next : ℕ → ℕ) (before marks : List ℕ) (y : ℕ) : Type 0 where
-  pub walk : Walk (followers I p) (I .proposers .size) x (x + 1) before marks y
-  pub advanced : Advanced I t next
-  pub most : y ≤ I .proposers .size
-  pub ended : y < I .proposers .size → vec marks y ≡ 0 → ⊥
-
--- The answer where the lowest proposer on the cycle of y is looked for
-pub record LowestOf (I : Market) (p t : ℕ → ℕ) (next : ℕ → ℕ) (y low : ℕ) : Type 0 where
-  pub covers : Covered (followers I p) (I .proposers .size) low y
-  pub returns : returns (followers I p) (I .proposers .size) low ≡ true
-  pub advanced : Advanced I t next
-
--- What the search knows after a walk from each proposer below x
-pub record SearchedTo (I : Market) (p t : ℕ → ℕ) (x low : ℕ) (next : ℕ → ℕ) (marks : List ℕ) : Type 0 where
-  pub sought : Sought (followers I p) (I .proposers .size) x low marks
-  pub advanced : Advanced I t next
-
--- The answer of the whole search: the lowest proposer whose followers lead back to him, or the number of proposers
-pub record LowestIs (I : Market) (p t : ℕ → ℕ) (next : ℕ → ℕ) (x : ℕ) : Type 0 where
-  pub is : x ≡ lowest I p
-  pub advanced : Advanced I t next
-
--- the pointers change nothing else
-pub state-on : {I : Market} {p t next after : ℕ → ℕ} → State I p t next → Advanced I t after → State I p t after
-state-on Q A = record { stable = Q .stable; mirror = Q .mirror; advanced = A }
+use Rattle.rotation_search.specs.Pointers.{Advanced, FollowerIs}
+use Rattle.rotation_search.specs.Search.{WalkedTo, LowestOf, SearchedTo, LowestIs}
 
 module _ {I : Market} (M : Proper I) (p : ℕ → ℕ) where
   -- nobody follows nobody
@@ -55,7 +29,7 @@ module _ {I : Market} (M : Proper I) (p : ℕ → ℕ) where
 -- What the loop of a walk knows
 pub record Walking (I : Market) (p t : ℕ → ℕ) (x : ℕ) (next : List ℕ) (before marks : List ℕ) (y : ℕ) : Type 0 where
   pub walk : Walk (followers I p) (I .proposers .size) x (x + 1) before marks y
-  pub state : State I p t (vec next)
+  pub advanced : Advanced I t (vec next)
   pub pointers : length next ≡ I .proposers .size
   pub most : y ≤ I .proposers .size
 
@@ -66,56 +40,52 @@ module _ {I : Market} (M : Proper I) {p t : ℕ → ℕ} {x : ℕ} {next before 
   walking-on h u e {after} l {z} F =
       record {
         walk = walk-on (W .walk) h u (omega arith) e (F .is);
-        state = state-on (W .state) (F .advanced);
+        advanced = F .advanced;
         pointers = l ∙ W .pointers;
         most = omega (arith, F .is, followers-le M p u);
       }
-
-  -- it has stopped
-  pub walking-end : (y < I .proposers .size → vec marks y ≡ 0 → ⊥) → WalkedTo I p t x (vec next) before marks y
-  walking-end h = record { walk = W .walk; advanced = W .state .advanced; most = W .most; ended = h }
 
 -- What the loop round a cycle knows
 pub record Rounding (I : Market) (p t : ℕ → ℕ) (next : List ℕ) (y s z low : ℕ) : Type 0 where
   pub round : Round (followers I p) (I .proposers .size) y s z
   pub lowest : Lowest (followers I p) y s low
-  pub state : State I p t (vec next)
+  pub advanced : Advanced I t (vec next)
   pub pointers : length next ≡ I .proposers .size
   pub begun : 0 < s
   pub most : z ≤ I .proposers .size
 
 -- after the first turn
-pub rounding-start : {I : Market} → Proper I → {p t : ℕ → ℕ} {y : ℕ} → y < I .proposers .size → {next : ℕ → ℕ} {after : List ℕ} → State I p t next → length after ≡ I .proposers .size →
-    {z : ℕ} → FollowerIs I p t (vec after) y z → Rounding I p t after y 1 z y
-rounding-start {I} M {p} u Q l F =
+pub rounding-start : {I : Market} → Proper I → {p t : ℕ → ℕ} {y : ℕ} → y < I .proposers .size → {next : List ℕ} → length next ≡ I .proposers .size →
+    {z : ℕ} → FollowerIs I p t (vec next) y z → Rounding I p t next y 1 z y
+rounding-start {I} M {p} u l F =
     record {
       round = round-first round-start refl (F .is);
       lowest = lowest-one;
-      state = state-on Q (F .advanced);
+      advanced = F .advanced;
       pointers = l;
       begun = omega arith;
       most = omega (arith, F .is, followers-le M p u);
     }
 
-module _ {I : Market} (M : Proper I) {p t : ℕ → ℕ} {y : ℕ} (u : y < I .proposers .size) (back : returns (followers I p) (I .proposers .size) y ≡ true) {next : List ℕ} {s z low : ℕ} (R : Rounding I p t next y s z low) where
+module _ {I : Market} {p t : ℕ → ℕ} {next : List ℕ} {y s z low : ℕ} (R : Rounding I p t next y s z low) (back : returns (followers I p) (I .proposers .size) y ≡ true) where
   -- who is met is a proposer
-  pub rounding-inside : z < I .proposers .size
-  rounding-inside =
+  pub rounding-inside : Proper I → y < I .proposers .size → z < I .proposers .size
+  rounding-inside M u =
       split (I .proposers .size) z
       (λ h. absurd (round-inside (R .round) back (followers-end M p) (λ e. omega arith) (omega (arith, R .most))))
       (λ h. h)
 
   -- one turn more
-  pub rounding-on : (z ≡ y → ⊥) → {after : List ℕ} → length after ≡ length next → {w : ℕ} → FollowerIs I p t (vec after) z w → {less : ℕ} → less ≡ min low z →
+  pub rounding-on : Proper I → y < I .proposers .size → (z ≡ y → ⊥) → {after : List ℕ} → length after ≡ length next → {w : ℕ} → FollowerIs I p t (vec after) z w → {less : ℕ} → less ≡ min low z →
       Rounding I p t after y (s + 1) w less
-  rounding-on ne {after} l {w} F e =
+  rounding-on M u ne {after} l {w} F e =
       record {
         round = round-on (R .round) back ne (F .is);
         lowest = lowest-more (R .lowest) (R .round .here) e;
-        state = state-on (R .state) (F .advanced);
+        advanced = F .advanced;
         pointers = l ∙ R .pointers;
         begun = omega arith;
-        most = omega (arith, F .is, followers-le M p rounding-inside);
+        most = omega (arith, F .is, followers-le M p (rounding-inside M u));
       }
 
   -- all turns are made
@@ -124,16 +94,16 @@ module _ {I : Market} (M : Proper I) {p t : ℕ → ℕ} {y : ℕ} (u : y < I .p
       record {
         covers = lowest-covers (R .begun) (R .round .here ∙ e) (R .lowest);
         returns = lowest-returns (I .proposers .size) back (R .lowest);
-        advanced = R .state .advanced;
+        advanced = R .advanced;
       }
 
-module _ {I : Market} (M : Proper I) {p t : ℕ → ℕ} {x low : ℕ} {next after : ℕ → ℕ} {marks : List ℕ} (S : SearchedTo I p t x low next marks) {met : List ℕ} {y : ℕ} (W : WalkedTo I p t x after marks met y) where
+module _ {I : Market} {p t : ℕ → ℕ} {x low : ℕ} {after : ℕ → ℕ} {marks met : List ℕ} {y : ℕ} (S : Sought (followers I p) (I .proposers .size) x low marks) (W : WalkedTo I p t x after marks met y) where
   -- a walk that came to nobody: no other cycles than before
-  pub searched-none : I .proposers .size ≤ y → SearchedTo I p t (x + 1) low after met
-  searched-none l =
+  pub searched-none : Proper I → I .proposers .size ≤ y → SearchedTo I p t (x + 1) low after met
+  searched-none M l =
       let e : y ≡ I .proposers .size = omega (arith, W .most) in
       record {
-        sought = sought-walk (S .sought) (W .walk) (omega arith) (rw e (covered-end (followers-end M p) (S .sought .most))) (S .sought .cyclic);
+        sought = sought-walk S (W .walk) (omega arith) (rw e (covered-end (followers-end M p) (S .most))) (S .cyclic);
         advanced = W .advanced;
       }
 
@@ -141,8 +111,8 @@ module _ {I : Market} (M : Proper I) {p t : ℕ → ℕ} {x low : ℕ} {next aft
   pub searched-old : y < I .proposers .size → (vec met y ≡ x + 1 → ⊥) → SearchedTo I p t (x + 1) low after met
   searched-old l ne =
       record {
-        sought = sought-walk (S .sought) (W .walk) (omega arith)
-            (S .sought .marked y (λ z. W .ended l (W .walk .others y ne ∙ z))) (S .sought .cyclic);
+        sought = sought-walk S (W .walk) (omega arith)
+            (S .marked y (λ z. W .ended l (W .walk .others y ne ∙ z))) (S .cyclic);
         advanced = W .advanced;
       }
 
@@ -150,9 +120,9 @@ module _ {I : Market} (M : Proper I) {p t : ℕ → ℕ} {x low : ℕ} {next aft
   pub searched-new : {last : ℕ → ℕ} {less least : ℕ} → LowestOf I p t last y less → least ≡ min low less → SearchedTo I p t (x + 1) least last met
   searched-new {last} {less} {least} L e =
       record {
-        sought = sought-walk (S .sought) (W .walk) (omega arith) (covered-less (omega arith) (L .covers))
+        sought = sought-walk S (W .walk) (omega arith) (covered-less (omega arith) (L .covers))
             (λ h. split low less
-            (λ g. let q : least ≡ low = omega arith in rw q (S .sought .cyclic (omega arith)))
+            (λ g. let q : least ≡ low = omega arith in rw q (S .cyclic (omega arith)))
             (λ g. let q : least ≡ less = omega arith in rw q (L .returns)));
         advanced = L .advanced;
       }

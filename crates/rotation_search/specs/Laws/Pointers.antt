@@ -1,5 +1,5 @@
--- The next receiver by pointers that only advance. A proposer's pointer has passed receivers who do not prefer him to whom they have;
--- since receivers are never worse off later, it need not go back. Assumes nothing.
+-- Laws on the pointers: where they may start and go on, and that the search along a list finds the next receiver.
+-- Assumes nothing.
 use Prim.Native.Nat.{ℕ, _+_, _≤_, _<_}
 use mathlib.Core.Path.{_≡_, sym, _∙_, ap}
 use native.Mathlib.Omega.{arith}
@@ -10,35 +10,12 @@ use Rattle.stable_theory.specs.Stable.Holding.{accept-at, hold-at}
 use Rattle.stable_theory.specs.Rotations.Rotation.{Next}
 use Rattle.stable_theory.specs.Rotations.Numbering.{follow, followers}
 use Rattle.stable_theory.specs.Rotations.FollowLaws.{follow-next, next-follow, followers-at, follow-le}
-
--- no receiver above place k on i's list prefers i to whom she has; t has the receivers' places
-pub record Passed (I : Market) (t : ℕ → ℕ) (i k : ℕ) : Type 0 where
-  pub content : {v : ℕ} → Acceptable I i v → I .proposers .place i v < k → t v ≤ I .receivers .place v i
-
--- every proposer's pointer has passed such receivers alone
-pub record Advanced (I : Market) (t next : ℕ → ℕ) : Type 0 where
-  pub passed : {i : ℕ} → i < I .proposers .size → Passed I t i (next i)
-
--- What a search for rotations has: a stable vector p, its other side t, and the pointers
-pub record State (I : Market) (p t next : ℕ → ℕ) : Type 0 where
-  pub stable : Stable I p
-  pub mirror : Mirror I p t
-  pub advanced : Advanced I t next
-
--- The answer where proposer i's next receiver is looked for: who holds her, or the number of proposers where there is none
-pub record FollowerIs (I : Market) (p t next : ℕ → ℕ) (i j : ℕ) : Type 0 where
-  pub is : j ≡ followers I p i
-  pub advanced : Advanced I t next
-
--- The search along i's list: it has passed such receivers up to place k, where it stops at the end or at one who prefers i
-pub record Stopped (I : Market) (t : ℕ → ℕ) (i k : ℕ) : Type 0 where
-  pub passed : Passed I t i k
-  pub willing : k < I .proposers .len i → I .receivers .place (I .proposers .at i k) i < t (I .proposers .at i k)
+use Rattle.rotation_search.specs.Pointers.{NoneWilling, Stopped, Advanced}
 
 module _ {I : Market} (M : Proper I) {t : ℕ → ℕ} where
-  -- one receiver more is passed
-  pub passed-on : {i k : ℕ} → Passed I t i k → t (I .proposers .at i k) ≤ I .receivers .place (I .proposers .at i k) i → Passed I t i (k + 1)
-  passed-on {i} {k} P h =
+  -- one receiver more does not prefer i
+  pub none-on : {i k : ℕ} → NoneWilling I t i k → t (I .proposers .at i k) ≤ I .receivers .place (I .proposers .at i k) i → NoneWilling I t i (k + 1)
+  none-on {i} {k} P h =
       record {
         content = λ {v} A l. split k (I .proposers .place i v)
             (λ g. let e : I .proposers .at i k ≡ v =
@@ -48,18 +25,18 @@ module _ {I : Market} (M : Proper I) {t : ℕ → ℕ} where
       }
 
 -- the pointers of a proposer who is looked at may be set to where the search stopped
-pub advanced-set : {I : Market} {t next after : ℕ → ℕ} {i k : ℕ} → Advanced I t next → Passed I t i k → after i ≡ k →
+pub advanced-set : {I : Market} {t next after : ℕ → ℕ} {i k : ℕ} → Advanced I t next → NoneWilling I t i k → after i ≡ k →
     ((j : ℕ) → (j ≡ i → ⊥) → after j ≡ next j) → Advanced I t after
 advanced-set {I} {t} {next} {after} {i} {k} A P e o =
     record {
-      passed = λ {i = j} u. same j i
+      none = λ {i = j} u. same j i
           (λ q. rw (q, e) P)
-          (λ n. rw (o j n) (A .passed u));
+          (λ n. rw (o j n) (A .none u));
     }
 
--- receivers who are better off are passed still
+-- where receivers are better off, pointers may stay
 pub advanced-better : {I : Market} {t u next : ℕ → ℕ} → Before (exchange I) u t → Advanced I t next → Advanced I u next
-advanced-better le A = record { passed = λ v. record { content = λ {v = w} a l. omega (arith, le w (a .receiver), A .passed v .content a l) } }
+advanced-better le A = record { none = λ v. record { content = λ {v = w} a l. omega (arith, le w (a .receiver), A .none v .content a l) } }
 
 module _ {I : Market} (M : Proper I) {p t : ℕ → ℕ} (P : Stable I p) (N : Mirror I p t) where
   -- a receiver whom i reaches does not prefer him to whom she has
@@ -70,7 +47,7 @@ module _ {I : Market} (M : Proper I) {p t : ℕ → ℕ} (P : Stable I p) (N : M
 
   -- so pointers may start anywhere at or before the present places, as at 0
   pub advanced-start : {next : ℕ → ℕ} → ((i : ℕ) → i < I .proposers .size → next i ≡ 0) → Advanced I t next
-  advanced-start z = record { passed = λ {i} u. record { content = λ a l. absurd (omega (arith, z i u)) } }
+  advanced-start z = record { none = λ {i} u. record { content = λ a l. absurd (omega (arith, z i u)) } }
 
   -- where i has no next receiver, nobody follows him
   nobody : {i : ℕ} → i < I .proposers .size → ((w j : ℕ) → Next I p i w j → ⊥) → I .proposers .size ≡ followers I p i
@@ -91,7 +68,7 @@ module _ {I : Market} (M : Proper I) {p t : ℕ → ℕ} (P : Stable I p) (N : M
     -- the search came to the end of the list
     pub follower-end : I .proposers .len i ≤ k → I .proposers .size ≡ followers I p i
     follower-end l =
-        nobody u (λ w j n. omega (arith, n .pair .lists, next-prefers n, S .passed .content (n .pair) (omega (arith, n .pair .lists))))
+        nobody u (λ w j n. omega (arith, n .pair .lists, next-prefers n, S .none .content (n .pair) (omega (arith, n .pair .lists))))
 
     module _ (l : k < I .proposers .len i) where
       -- the place where it stopped is below his
@@ -104,7 +81,7 @@ module _ {I : Market} (M : Proper I) {p t : ℕ → ℕ} (P : Stable I p) (N : M
       -- a next receiver stands there
       only : {w j : ℕ} → Next I p i w j → k ≤ I .proposers .place i w
       only {w} n =
-          split k (I .proposers .place i w) (λ h. h) (λ h. absurd (omega (arith, next-prefers n, S .passed .content (n .pair) h)))
+          split k (I .proposers .place i w) (λ h. h) (λ h. absurd (omega (arith, next-prefers n, S .none .content (n .pair) h)))
 
       -- it came to a receiver who is free: there is no next receiver
       pub follower-free : I .receivers .len (I .proposers .at i k) ≤ t (I .proposers .at i k) → I .proposers .size ≡ followers I p i
@@ -132,7 +109,7 @@ module _ {I : Market} (M : Proper I) {p t : ℕ → ℕ} (P : Stable I p) (N : M
             held = H;
             prefers = omega (arith, S .willing l, N .there H .is);
             between = λ v B m g.
-                let c = S .passed .content B (omega arith) in
+                let c = S .none .content B (omega arith) in
                 let y : t v < I .receivers .place v i =
                 split (I .receivers .place v i) (t v)
                 (λ s. let z = N .back (record { pair = acceptable-back B; is = omega arith }) in absurd (omega (arith, z .is)))

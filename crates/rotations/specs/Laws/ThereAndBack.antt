@@ -1,26 +1,26 @@
--- From a closed set to its matching and back, and from a stable matching to its set and back, byte by byte. Assumes nothing.
+-- From a closed set to its matching and back, and from a stable matching to its set and back, mark by mark and entry
+-- by entry. Assumes nothing.
 use Prim.Native.Nat.{ℕ, _≤_, _<_}
 use mathlib.Core.Path.{_≡_, refl, sym, _∙_, ap, ap₂}
 use mathlib.Core.Bool.{Bool, true, false, not}
 use mathlib.Core.List.{List}
 use native.Mathlib.Omega.{arith}
 use lib.ListN.{length}
-use lib.Seq.{ext-getD}
 use lib.Dec.{ltb, eqb}
 use borrow.Author.Tests.{eq-eqb, ne-eqb, le-ltb}
 use Rattle.laws.specs.Choice.{pick, either, same}
 use Rattle.laws.specs.First.{some-false}
-use Rattle.laws.specs.Values.{stored-at, length-values, values-same}
+use Rattle.laws.specs.Values.{length-values, values-same}
 use Rattle.format.specs.Verdict.{fine}
-use Rattle.format.specs.Format.{byte, people}
+use Rattle.format.specs.Format.{people, markIn}
 use Rattle.format.specs.WellFormed.{WellFormed}
+use Rattle.format.specs.Laws.Rows.{mark-stored, marks-same}
 use Rattle.stable_theory.specs.Stable.Vector.{Stable}
 use Rattle.stable_theory.specs.Stable.Holding.{Same}
 use Rattle.stable_theory.specs.Matchings.Matching.{partners}
 use Rattle.stable_theory.specs.Least.Optimal.{proposer-optimal}
 use Rattle.stable_theory.specs.Rotations.Numbering.{rotation}
 use Rattle.stable_theory.specs.Rotations.Subset.{setOf}
-use Rattle.stable_theory.specs.Rotations.Subset
 use Rattle.stable_theory.specs.Rotations.SameRotation.{passed-agree}
 use Rattle.stable_theory.specs.Rotations.Canonical.{rotations-complete}
 use Rattle.stable_theory.specs.Rotations.Rebuild.{after-cong}
@@ -28,28 +28,29 @@ use Rattle.stable_theory.specs.Rotations.ClosedSubset.{closed-agree}
 use Rattle.stable_theory.specs.Rotations.Demand2Theory.{theorem-1-matching, theorem-1-there, theorem-1-subset, theorem-1-back, closed-test}
 use Rattle.matchings.specs.BookMarket.{market, market-proper}
 use Rattle.matchings.specs.Matching.{vectorOf, checkMatching}
-use Rattle.matchings.specs.StableCheck.{fine-stable}
-use Rattle.matchings.specs.StableVector.{fine-vector, matching-back, vector-fine, vector-back}
+use Rattle.matchings.specs.Laws.StableCheck.{fine-stable}
+use Rattle.matchings.specs.Laws.StableVector.{fine-vector, matching-back, vector-fine, vector-back}
 use Rattle.rotations.specs.RotationList.{rotationCount}
 use Rattle.rotations.specs.Sets.{member, badMarks, closedSet, setVector, setMatching, matchingSet}
 use Rattle.rotations.specs.Laws.SetVerdict.{GoodMarks}
+use Rattle.stable_theory.specs.Rotations.Subset
 
--- the byte of a test, and the test of a byte
+-- the mark of a test, and the test of a mark
 bit-test : (t : Bool) → eqb (pick t 1 0) 1 ≡ t
 bit-test true = refl
 bit-test false = refl
 
-bit-byte : {x : ℕ} → x ≤ 1 → pick (eqb x 1) 1 0 ≡ x
-bit-byte {x} h = same x 1 (λ e. ap (λ (t : Bool). pick t 1 0) (eq-eqb x 1 e) ∙ sym e) (λ ne. let z : 0 ≡ x = omega arith in ap (λ (t : Bool). pick t 1 0) (ne-eqb x 1 ne) ∙ z)
+bit-mark : {x : ℕ} → x ≤ 1 → pick (eqb x 1) 1 0 ≡ x
+bit-mark {x} h = same x 1 (λ e. ap (λ (t : Bool). pick t 1 0) (eq-eqb x 1 e) ∙ sym e) (λ ne. let z : 0 ≡ x = omega arith in ap (λ (t : Bool). pick t 1 0) (ne-eqb x 1 ne) ∙ z)
 
 bit-small : (t : Bool) → pick t 1 0 ≤ 1
 bit-small true = omega arith
 bit-small false = omega arith
 
--- the set of a matching has one byte a rotation
-set-byte : (b m : List ℕ) {k : ℕ} → k < rotationCount b → byte (matchingSet b m) k ≡ pick (setOf (market b) (rotation (market b)) (vectorOf b m) k) 1 0
+-- the set of a matching has one mark a rotation
+set-mark : (b m : List ℕ) {k : ℕ} → k < rotationCount b → markIn (matchingSet b m) k ≡ pick (setOf (market b) (rotation (market b)) (vectorOf b m) k) 1 0
 unfolding matchingSet
-set-byte b m h = stored-at (rotationCount b) (λ k. pick (setOf (market b) (rotation (market b)) (vectorOf b m) k) 1 0) h
+set-mark b m h = mark-stored (rotationCount b) (λ k. pick (setOf (market b) (rotation (market b)) (vectorOf b m) k) 1 0) h
 
 pub set-long : (b m : List ℕ) → length (matchingSet b m) ≡ rotationCount b
 unfolding matchingSet
@@ -57,7 +58,7 @@ set-long b m = length-values (λ k. pick (setOf (market b) (rotation (market b))
 
 -- a rotation is in it exactly where the matching is past it
 pub set-member : (b m : List ℕ) (k : ℕ) → k < rotationCount b → member (matchingSet b m) k ≡ setOf (market b) (rotation (market b)) (vectorOf b m) k
-set-member b m k h = ap (λ (x : ℕ). eqb x 1) (set-byte b m h) ∙ bit-test (setOf (market b) (rotation (market b)) (vectorOf b m) k)
+set-member b m k h = ap (λ (x : ℕ). eqb x 1) (set-mark b m h) ∙ bit-test (setOf (market b) (rotation (market b)) (vectorOf b m) k)
 
 module _ {b : List ℕ} (W : WellFormed b) (set : List ℕ) (c : closedSet b set ≡ true) where
   -- the matching of a closed set is stable
@@ -78,13 +79,13 @@ module _ {b : List ℕ} (W : WellFormed b) (set : List ℕ) (c : closedSet b set
   unfolding setOf
   set-there G =
       let m = setMatching b set in
-      ext-getD 0 (matchingSet b m) set (set-long b m ∙ sym (G .long))
+      marks-same (matchingSet b m) set (set-long b m ∙ sym (G .long))
       (λ k (u : k < length (matchingSet b m)).
       let h : k < rotationCount b = omega (arith, set-long b m) in
-      set-byte b m h
+      set-mark b m h
       ∙ (ap (λ (t : Bool). pick t 1 0)
       (passed-agree (rotations-complete (market-proper W) .exposed h) back-vector ∙ theorem-1-there (market-proper W) (closed-test (market-proper W) (member set) .0 c) k h)
-      ∙ bit-byte (G .small k (omega (arith, G .long)))))
+      ∙ bit-mark (G .small k (omega (arith, G .long)))))
 
 module _ (b m : List ℕ) (e : checkMatching b m ≡ fine) where
   -- the book of a matching in which nothing is refused is well formed
@@ -103,10 +104,10 @@ module _ (b m : List ℕ) (e : checkMatching b m ≡ fine) where
   unfolding badMarks
   matching-marks =
       ap₂ either (ap not (eq-eqb (length (matchingSet b m)) (rotationCount b) (set-long b m)))
-      (some-false (λ k. ltb 1 (byte (matchingSet b m) k))
+      (some-false (λ k. ltb 1 (markIn (matchingSet b m) k))
       (λ k (u : k < length (matchingSet b m)).
       let h : k < rotationCount b = omega (arith, set-long b m) in
-      le-ltb 1 (byte (matchingSet b m) k) (omega (arith, set-byte b m h, bit-small (setOf (market b) (rotation (market b)) (vectorOf b m) k)))))
+      le-ltb 1 (markIn (matchingSet b m) k) (omega (arith, set-mark b m h, bit-small (setOf (market b) (rotation (market b)) (vectorOf b m) k)))))
 
   -- and the places of the set are those of the matching
   there-vector : Same (market b) (setVector b (matchingSet b m)) (vectorOf b m)

@@ -6,18 +6,17 @@ use mathlib.Core.List.{List, _++_}
 use native.Mathlib.Omega.{arith}
 use lib.ListN.{length, take, drop}
 use lib.Seq.{getD-take}
+use Rattle.format.specs.Record.{Record}
+use Rattle.instances.specs.Usable.{marketIn}
+use Rattle.extremes.specs.Places.{PlacesIn, Writable, womenAt}
 use Rattle.laws.specs.Choice.{tested}
-use Rattle.laws.specs.Table.{cell}
-use Rattle.laws.specs.Values.{vec, values, stored-at, length-values}
-use Rattle.laws.specs.Padded.{padded, padded-at, padded-past, padded-long}
-use Rattle.format.specs.declared.record.Instance.{Instance}
+use Rattle.laws.specs.Values.{vec}
 use Rattle.format.specs.Verdict.{Verdict, fine}
-use Rattle.format.specs.Format.{largest, people}
+use Rattle.format.specs.Outcome.{filled}
+use Rattle.format.specs.Format.{people}
 use Rattle.stable_theory.specs.Stable.Vector.{Within, Stable}
 use Rattle.stable_theory.specs.Stable.Holding.{Same}
-use Rattle.stable_theory.specs.Stable.Holder.{mirror}
-use Rattle.stable_theory.specs.Stable.Mirror.{mirror-of}
-use Rattle.stable_theory.specs.Stable.Alike.{alike-refl, alike-sym, within-alike, stable-alike, mirror-alike}
+use Rattle.stable_theory.specs.Stable.Alike.{alike-sym, within-alike, stable-alike}
 use Rattle.stable_theory.specs.Least.Optimal.{proposer-optimal, proposer-optimal-stable}
 use Rattle.stable_theory.specs.Least.OptimalAlike.{proposer-optimal-alike}
 use Rattle.stable_theory.specs.Rotations.Numbering.{rotation}
@@ -26,34 +25,31 @@ use Rattle.stable_theory.specs.Rotations.SameRotation.{passed-agree}
 use Rattle.stable_theory.specs.Rotations.Demand2Theory.{theorem-1-matching, theorem-1-there, closed-exactly, closed-test}
 use Rattle.matchings.specs.declared.places.Places.{Places}
 use Rattle.matchings.specs.BookMarket.{market, market-proper}
-use Rattle.extremes.specs.Usable.{marketIn}
-use Rattle.matchings.specs.Extreme.{filled}
-use Rattle.extremes.specs.ExtremePlaces.{PlacesOf}
-use Rattle.extremes.specs.ExtremeBytes.{Writable, places-writable, places-filled}
+use Rattle.extremes.specs.Laws.ExtremeBytes.{places-writable, women-filled}
 use Rattle.rotation_numbering.specs.declared.numbering.Extent.{Extent}
-use Rattle.rotation_numbering.specs.Laws.Numbers.{NumberingOf}
+use Rattle.rotation_numbering.specs.Numbering.{NumberingOf}
 use Rattle.rotations.specs.RotationList.{rotationCount}
-use Rattle.rotation_list.specs.Laws.Replies.{Read, read-usable}
+use Rattle.instances.specs.Laws.Read.{Read, read-usable}
 use Rattle.rotation_list.specs.Laws.BookList.{numbered-exposed}
 use Rattle.precedence.specs.Laws.BookOrder.{book-alike, book-ranks, book-number, book-past}
-use Rattle.precedence.specs.Laws.ListRead.{startIn, pastIn}
-use Rattle.closed_subsets.specs.Laws.SetCode.{RanksOf}
-use Rattle.closed_subsets.specs.Laws.PlaceTests.{ClosesIs}
-use Rattle.closed_subsets.specs.Laws.SetPlaces.{SetPlaces, after-same, after-within}
+use Rattle.precedence.specs.ListRead.{pastNumber}
+use Rattle.closed_subsets.specs.SetPlaces.{RanksOf, SetPlaces}
+use Rattle.closed_subsets.specs.PlaceTests.{ClosesIs}
+use Rattle.closed_subsets.specs.Laws.SetPlaces.{after-same, after-within}
 use Rattle.rotations.specs.Sets.{member, closedSet, setVector, setMatching}
 
-module _ {b : List ℕ} {r : Instance} (R : Read b r) {numbers : List ℕ} {s : Extent} (N : NumberingOf r numbers s) where
+module _ {b : List ℕ} {r : Record} (R : Read b r) {numbers : List ℕ} {s : Extent} (N : NumberingOf r numbers s) where
   -- a person of the book is one of the record
   on-record : {i : ℕ} → i < market b .proposers .size → i < r .n
   unfolding market
   on-record u = omega (arith, R .tables .number)
 
   -- the record's rank table has the book's places
-  ranks-of : RanksOf (r .n) (r .«man_ranks») (market b)
+  ranks-of : RanksOf (r .n) (r .mranks) (market b)
   unfolding market
   ranks-of = record { rank = λ i w a c. book-ranks R i w (omega (arith, R .tables .number)) (omega (arith, R .tables .number)) }
 
-  module _ {places : Places} (P : PlacesOf r (proposer-optimal (marketIn r)) places) {set men : List ℕ} (S : SetPlaces (r .n) (r .«man_ranks») numbers set (places .men) men) (marks : length set ≡ rotationCount b) where
+  module _ {places : Places} (P : PlacesIn (r .n) (marketIn r) (proposer-optimal (marketIn r)) places) {set men : List ℕ} (S : SetPlaces (r .n) (r .mranks) numbers set (places .men) men) (marks : length set ≡ rotationCount b) where
     -- the places are those of the set
     pub set-vector : Same (market b) (vec men) (setVector b set)
     unfolding vectorOf
@@ -81,12 +77,12 @@ module _ {b : List ℕ} {r : Instance} (R : Read b r) {numbers : List ℕ} {s : 
     there-here Q = stable-alike (alike-sym (book-alike R)) (λ i u. sym (set-vector i u)) Q
 
     -- past a rotation in the code's test and in the theory's
-    pub set-past : {k : ℕ} → k < rotationCount b → pastIn (r .n) (r .«man_ranks») numbers (startIn numbers k) (vec men) ≡ setOf (market b) (rotation (market b)) (setVector b set) k
+    pub set-past : {k : ℕ} → k < rotationCount b → pastNumber (r .n) (r .mranks) numbers (vec men) k ≡ setOf (market b) (rotation (market b)) (setVector b set) k
     unfolding setOf
     set-past h = book-past R N (vec men) h ∙ passed-agree (numbered-exposed R h) set-vector
 
     -- so the code's test is whether the set is closed
-    pub set-closed : {answer : Bool} → ClosesIs (marketIn r) (vec men) (length set) (λ k. pastIn (r .n) (r .«man_ranks») numbers (startIn numbers k) (vec men)) (member set) answer →
+    pub set-closed : {answer : Bool} → ClosesIs (marketIn r) (vec men) (length set) (pastNumber (r .n) (r .mranks) numbers (vec men)) (member set) answer →
         closedSet b set ≡ answer
     set-closed {answer} C =
         let M = market-proper (R .formed) in
@@ -97,32 +93,19 @@ module _ {b : List ℕ} {r : Instance} (R : Read b r) {numbers : List ℕ} {s : 
         absurd (C .no e (there-here (theorem-1-matching M c)) (λ k h. set-past (omega arith) ∙ theorem-1-there M c k (omega arith))))
         (λ f. f ∙ sym e))
 
-    -- the places of a closed set are both sides of a matching, in an array each
-    pub set-sides : closedSet b set ≡ true → PlacesOf r (setVector b set) (record { men = men; women = padded largest (r .n) (values (mirror (marketIn r) (vec men)) 0 (r .n)) })
-    unfolding market
-    set-sides c =
-        let I = marketIn r in
-        let U = read-usable R in
-        let Q = there-here (theorem-1-matching (market-proper (R .formed)) (closed-test (market-proper (R .formed)) (member set) .0 c)) in
-        let w = values (mirror I (vec men)) 0 (r .n) in
-        let e = length-values (mirror I (vec men)) 0 (r .n) in
-        record {
-          same = λ i u. set-vector i (omega (arith, R .tables .number));
-          stable = Q;
-          mirror = mirror-alike (alike-refl I) (λ i u. refl)
-              (λ i u. sym (padded-at largest w e i u ∙ stored-at (r .n) (mirror I (vec men)) u)) (mirror-of (U .men .proper) (Q .settled));
-          men-past = S .past;
-          women-past = padded-past largest w e;
-          men-long = S .long;
-          women-long = padded-long largest w e (U .few);
-        }
+    -- the places of a closed set are stable
+    closed-stable : closedSet b set ≡ true → Stable (marketIn r) (vec men)
+    closed-stable c = there-here (theorem-1-matching (market-proper (R .formed)) (closed-test (market-proper (R .formed)) (member set) .0 c))
 
-    -- which can be written, and are the matching of the set
-    pub set-writable : closedSet b set ≡ true → {out : List ℕ} → r .n ≤ length out → Writable (r .n) (r .«man_lists») men out
-    set-writable c h = places-writable (R .formed) (R .tables) (set-sides c) h
+    -- so they can be written, and are the matching of the set
+    pub set-writable : closedSet b set ≡ true → {out : List ℕ} → r .n ≤ length out → Writable (r .n) (r .mlists) men out
+    set-writable c h =
+        let U = read-usable R in
+        places-writable U (closed-stable c) (λ i u. refl) (omega (arith, S .long, U .few)) h
 
     pub set-filled :
-        closedSet b set ≡ true → {v : Verdict} → v ≡ fine → (out after : List ℕ) →
-        after ≡ values (λ i. cell (r .«man_lists») (r .n) i (vec men i)) 0 (r .n) ++ drop (r .n) out → after ≡ filled v (people b) (setMatching b set) out
-    unfolding setMatching
-    set-filled c e out after h = places-filled (R .formed) (R .tables) (set-sides c) (λ i u. refl) e out after h
+        closedSet b set ≡ true → {v : Verdict} → v ≡ fine → {n : ℕ} → n ≡ r .n → (out after : List ℕ) →
+        after ≡ womenAt n (r .mlists) (vec men) ++ drop n out → after ≡ filled v (people b) (setMatching b set) out
+    unfolding setMatching market
+    set-filled c e k out after h =
+        women-filled (R .formed) (R .tables) (closed-stable c) (λ i u. set-vector i (omega (arith, R .tables .number))) e k out after h

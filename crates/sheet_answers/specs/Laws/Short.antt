@@ -1,4 +1,4 @@
--- How long a sheet can be: 715 bytes, 65 lines of 11. Assumes nothing.
+-- How long a sheet can be: line one, and a line for each of the largest n. Assumes nothing.
 use Prim.Native.Nat.{ℕ, _+_, _-_, _*_, _≤_}
 use mathlib.Core.Path.{_≡_, refl, ap}
 use mathlib.Core.Bool.{not}
@@ -8,11 +8,12 @@ use native.Mathlib.Nat.{mul-le-mul}
 use lib.ListN.{length, length-append}
 use lib.Dec.{eqb}
 use Rattle.laws.specs.SumLaws.{count-most}
-use Rattle.laws.specs.Largest.{largest-le}
+use Rattle.laws.specs.Maximum.{maximum-le}
 use Rattle.laws.specs.Onto.{Into}
 use Rattle.format.specs.Verdict.{Verdict, fine, refused}
-use Rattle.format.specs.Format.{largest, byte, people}
+use Rattle.format.specs.Format.{largest, people}
 use Rattle.format.specs.WellFormed.{WellFormed}
+use Rattle.format.specs.Laws.Numbers.{numberOf}
 use Rattle.stable_theory.specs.Stable.Market.{Market}
 use Rattle.stable_theory.specs.Repairs.Repair.{moved, weight}
 use Rattle.stable_theory.specs.Repairs.Answer.{Answer, U, D, F, cost, robustness}
@@ -20,20 +21,21 @@ use Rattle.stable_theory.specs.Rotations.Numbering.{total}
 use Rattle.stable_theory.specs.Rotations.Canonical.{rotations-complete}
 use Rattle.stable_theory.specs.Rotations.RotationCount.{rotations-most-complete}
 use Rattle.matchings.specs.BookMarket.{market, market-proper, market-complete}
-use Rattle.matchings.specs.Matching.{vectorOf, checkMatching}
+use Rattle.matchings.specs.Matching.{vectorOf, checkMatching, womanOf}
 use Rattle.matchings.specs.Extreme.{matchingOf}
-use Rattle.matchings.specs.StableCheck.{fine-stable}
-use Rattle.matchings.specs.Numbers.{numberOf, matching-most}
+use Rattle.matchings.specs.Laws.StableCheck.{fine-stable}
+use Rattle.matchings.specs.Laws.Numbers.{matching-most}
 use Rattle.repairs.specs.Repair.{answerFor}
 use Rattle.repairs.specs.Grade.{gradeOf}
 use Rattle.sheets.specs.Line.{topLine, pairLines}
-use Rattle.sheets.specs.Sheet.{letterOf, distanceOf, answers, sheetAfter, bookPart, matchingPart, sheetOf}
+use Rattle.sheets.specs.Longest.{longest}
+use Rattle.sheets.specs.Sheet.{letterOf, distanceOf, answers, sheetAfter, sheetFor, bookPart, matchingPart, sheetOf}
 use Rattle.sheet_text.specs.Laws.Lines.{top-short, refusal-short, lines-short}
 
 -- an answer's distance is at most n
 pub distance-most : (b m : List ℕ) (a : Answer) → distanceOf b m a ≤ people b
-distance-most b m (U v) = count-most (people b) (λ i. not (eqb (byte (matchingOf b v) i) (byte m i)))
-distance-most b m (D v) = count-most (people b) (λ i. not (eqb (byte (matchingOf b v) i) (byte m i)))
+distance-most b m (U v) = count-most (people b) (λ i. not (eqb (womanOf (matchingOf b v) i) (womanOf m i)))
+distance-most b m (D v) = count-most (people b) (λ i. not (eqb (womanOf (matchingOf b v) i) (womanOf m i)))
 distance-most b m F = omega arith
 
 -- and so is its cost
@@ -47,7 +49,8 @@ cost-most I p s F = omega arith
 pub grade-most : (b m : List ℕ) → gradeOf b m ≤ people b
 unfolding robustness market
 grade-most b m =
-    largest-le (people b) (λ s. cost (market b) (λ i. 1) (vectorOf b m) s (answerFor b m s)) (people b) (λ s u. cost-most (market b) (vectorOf b m) s (answerFor b m s))
+    maximum-le (people b) (λ s. cost (market b) (λ i. 1) (vectorOf b m) s (answerFor b m s)) (people b)
+    (λ s u. cost-most (market b) (vectorOf b m) s (answerFor b m s))
 
 module _ {b : List ℕ} (W : WellFormed b) where
   -- twice the rotations are at most n × (n − 1)
@@ -55,42 +58,38 @@ module _ {b : List ℕ} (W : WellFormed b) where
   unfolding market
   rotations-by = rotations-most-complete (market-proper W) (rotations-complete (market-proper W)) (market-complete W)
 
-  -- so there are at most 2,016
-  pub rotations-few : total (market b) ≤ 2016
+  -- so there are no more than the square of the largest n
+  pub rotations-few : total (market b) ≤ largest * largest
   rotations-few =
       let few : people b ≤ largest = W .few in
-      let less : people b - 1 ≤ 63 = omega arith in
-      let h : people b * (people b - 1) ≤ largest * 63 = mul-le-mul few less in
-      omega (arith, rotations-by)
+      let less : people b - 1 ≤ largest = omega arith in
+      omega (arith, rotations-by, mul-le-mul few less)
 
-  -- and 65 lines at most
-  pub answers-short : (m : List ℕ) → Into (people b) (people b) (byte m) → length (answers b m) ≤ 715
+  -- and the sheet is no longer than the longest
+  pub answers-short : (m : List ℕ) → Into (people b) (people b) (womanOf m) → length (answers b m) ≤ longest
   unfolding answers
   answers-short m N =
       let few : people b ≤ largest = W .few in
       let top = topLine (people b) (total (market b)) (gradeOf b m) in
-      let pairs = pairLines (byte m) (λ s. letterOf (answerFor b m s)) (λ s. distanceOf b m (answerFor b m s)) (people b) in
+      let pairs = pairLines (womanOf m) (λ s. letterOf (answerFor b m s)) (λ s. distanceOf b m (answerFor b m s)) (people b) in
       omega (
         arith,
         length-append top pairs,
         top-short {n = people b} {r = total (market b)} {g = gradeOf b m} (omega arith) (omega (arith, rotations-few)) (omega (arith, grade-most b m)),
-        lines-short (byte m) (λ s. letterOf (answerFor b m s)) (λ s. distanceOf b m (answerFor b m s)) (people b)
+        lines-short (womanOf m) (λ s. letterOf (answerFor b m s)) (λ s. distanceOf b m (answerFor b m s)) (people b)
             (λ s u. (omega arith, omega (arith, N .below u), omega (arith, distance-most b m (answerFor b m s)))),
       )
 
--- A sheet is at most 715 bytes
-pub sheet-short : (input : List ℕ) → length (sheetOf input) ≤ 715
-unfolding sheetOf
-sheet-short input = after (checkMatching b m) refl
+-- No sheet is longer
+pub parts-short : (b m : List ℕ) → length (sheetFor b m) ≤ longest
+parts-short b m = after (checkMatching b m) refl
   where
-    b : List ℕ
-    b = bookPart input
-
-    m : List ℕ
-    m = matchingPart input
-
-    after : (v : Verdict) → checkMatching b m ≡ v → length (sheetAfter v b m) ≤ 715
+    after : (v : Verdict) → checkMatching b m ≡ v → length (sheetAfter v b m) ≤ longest
     after fine e = let A = fine-stable b m .0 e .matching in answers-short (A .formed) m (A .names)
     after (refused number place second) e =
         let k : number ≤ 10 = omega (arith, matching-most b m, ap numberOf e) in
         omega (arith, refusal-short {k = number} (omega arith))
+
+pub sheet-short : (input : List ℕ) → length (sheetOf input) ≤ longest
+unfolding sheetOf
+sheet-short input = parts-short (bookPart input) (matchingPart input)

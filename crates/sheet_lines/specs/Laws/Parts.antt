@@ -1,4 +1,4 @@
--- What was read, taken apart where the book ends, and what the check says of its parts. Assumes nothing.
+-- What was read, taken apart where the book ends, and the sheet of its parts. Assumes nothing.
 use Prim.Native.Nat.{ℕ, _-_, _≤_, min}
 use mathlib.Core.Path.{_≡_, sym, _∙_, ap}
 use mathlib.Core.List.{List}
@@ -12,7 +12,7 @@ use Rattle.format.specs.Verdict.{Verdict, fine, verdictOf}
 use Rattle.format.specs.Format.{people, size}
 use Rattle.matchings.specs.Matching.{checkMatching}
 use Rattle.sheets.specs.Line.{refusedLine}
-use Rattle.sheets.specs.Sheet.{bookPart, matchingPart, answers, sheetAfter, sheetOf}
+use Rattle.sheets.specs.Sheet.{bookPart, matchingPart, answers, sheetAfter, sheetFor, sheetOf}
 
 -- the bytes past the end of the book
 abbrev pub rest : List ℕ → ℕ → List ℕ
@@ -24,23 +24,26 @@ module _ (input : List ℕ) {end : ℕ} (e : end ≡ min (size (people input)) (
   end-within = omega arith
 
   -- the part before it is the book
-  pub book-part : take end input ≡ bookPart input
+  book-part : take end input ≡ bookPart input
   book-part = ap (λ (k : ℕ). take k input) e ∙ take-most input (size (people input))
 
   -- and the rest the matching
-  pub matching-part : rest input end ≡ matchingPart input
+  matching-part : rest input end ≡ matchingPart input
   matching-part = take-rest input end ∙ ap (λ (k : ℕ). drop k input) e ∙ drop-most input (size (people input))
 
-  -- so the sheet follows the check of the parts
-  pub sheet-parts : {v : Verdict} → v ≡ checkMatching (take end input) (rest input end) → sheetOf input ≡ sheetAfter v (take end input) (rest input end)
+  -- so the sheet is that of the two parts
+  pub sheet-parts : sheetOf input ≡ sheetFor (take end input) (rest input end)
   unfolding sheetOf
-  sheet-parts {v} f = rw (f, book-part, matching-part)
+  sheet-parts = rw (book-part, matching-part)
 
-  -- and is the line of a refusal
-  pub sheet-refusal : {k : Checked} {r : Refusal} → verdictOf k ≡ checkMatching (take end input) (rest input end) → k ≡ Refused r → sheetOf input ≡ refusedLine (verdictOf k)
+module _ (b m : List ℕ) where
+  -- where the check refuses it is the line of the refusal
+  pub sheet-refusal : {k : Checked} {r : Refusal} → verdictOf k ≡ checkMatching b m → k ≡ Refused r →
+      sheetFor b m ≡ refusedLine (verdictOf k)
   sheet-refusal {k} {r} f g =
-      sheet-parts f ∙ ap (λ (c : Checked). sheetAfter (verdictOf c) (take end input) (rest input end)) g ∙ sym (ap (λ (c : Checked). refusedLine (verdictOf c)) g)
+      let e = ap verdictOf g in
+      ap (λ (v : Verdict). sheetAfter v b m) (sym f ∙ e) ∙ sym (ap refusedLine e)
 
   -- or, where nothing is refused, the answers
-  pub sheet-answers : checkMatching (take end input) (rest input end) ≡ fine → sheetOf input ≡ answers (take end input) (rest input end)
-  sheet-answers f = sheet-parts (sym f)
+  pub sheet-answers : checkMatching b m ≡ fine → sheetFor b m ≡ answers b m
+  sheet-answers f = ap (λ (v : Verdict). sheetAfter v b m) f

@@ -1,5 +1,5 @@
--- Laws of base ten: the digits of a number and of its tenth part, how many there are, that they are digits, that they read back as the number, and
--- that none is a zero in front. Assumes nothing.
+-- Laws of base ten: the digits of a number and of its tenth part, how many there are, that they are digits, that they
+-- read back as the number, and that none is a zero in front. Assumes nothing.
 use Prim.Native.Nat.{ℕ, zero, suc, _+_, _-_, _*_, _/_, _%_, _^_, _≤_, _<_}
 use mathlib.Core.Path.{_≡_, refl, sym, _∙_, ap}
 use mathlib.Core.List.{List, [], _∷_, _++_}

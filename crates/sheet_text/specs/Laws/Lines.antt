@@ -1,5 +1,6 @@
--- How long the lines are, and the lines of all pairs one after the other: what the loop that puts them knows. Assumes nothing.
-use Prim.Native.Nat.{ℕ, zero, suc, _+_, _*_, _≤_, _<_}
+-- How long the lines are, and the lines of all pairs one after the other: what the loop that puts them knows. Assumes
+-- nothing.
+use Prim.Native.Nat.{ℕ, zero, suc, _+_, _-_, _*_, _≤_, _<_}
 use mathlib.Core.Path.{_≡_, refl, sym, _∙_, ap}
 use mathlib.Core.List.{List, _++_}
 use native.Mathlib.Omega.{arith}
@@ -7,8 +8,10 @@ use native.Mathlib.Numerals.{add-one}
 use lib.ListN.{length, length-append}
 use Rattle.laws.specs.Choice.{same}
 use Rattle.laws.specs.Overwrite.{overwritten-none}
+use Rattle.format.specs.Format.{largest}
 use Rattle.sheets.specs.Decimal.{decimal}
 use Rattle.sheets.specs.Line.{line, topLine, pairLine, pairLines, refusalLine}
+use Rattle.sheets.specs.Longest.{digits, topMost, pairMost}
 use Rattle.sheet_text.specs.Put.{Put}
 use Rattle.sheet_text.specs.Laws.Decimal.{decimal-short}
 use Rattle.sheet_text.specs.Laws.Put.{put-on, put-long}
@@ -26,12 +29,19 @@ pub refusal-length : (k : ℕ) → length (refusalLine k) ≡ length (decimal k)
 unfolding refusalLine line
 refusal-length k = simp length-append (omega arith)
 
--- at most 11 bytes each, and a refusal with any byte for a number at most 12
-pub top-short : {n r g : ℕ} → n < 100 → r < 10000 → g < 100 → length (topLine n r g) ≤ 11
-top-short {n} {r} {g} a b c = omega (arith, top-length n r g, decimal-short 1 n a, decimal-short 3 r b, decimal-short 1 g c)
+-- the digits of a number up to the largest n, and up to its square
+few-digits : {x : ℕ} → x ≤ largest → length (decimal x) ≤ digits
+few-digits {x} h = decimal-short (digits - 1) x (omega arith)
 
-pub pair-short : {s w : ℕ} (l : ℕ) {d : ℕ} → s < 100 → w < 100 → d < 100 → length (pairLine s w l d) ≤ 11
-pair-short {s} {w} l {d} a b c = omega (arith, pair-length s w l d, decimal-short 1 s a, decimal-short 1 w b, decimal-short 1 d c)
+square-digits : {x : ℕ} → x ≤ largest * largest → length (decimal x) ≤ 2 * digits
+square-digits {x} h = decimal-short (2 * digits - 1) x (omega arith)
+
+-- so no line is too long, and a refusal with any byte for a number has at most 12
+pub top-short : {n r g : ℕ} → n ≤ largest → r ≤ largest * largest → g ≤ largest → length (topLine n r g) ≤ topMost
+top-short {n} {r} {g} a b c = omega (arith, top-length n r g, few-digits a, square-digits b, few-digits c)
+
+pub pair-short : {s w : ℕ} (l : ℕ) {d : ℕ} → s ≤ largest → w ≤ largest → d ≤ largest → length (pairLine s w l d) ≤ pairMost
+pair-short {s} {w} l {d} a b c = omega (arith, pair-length s w l d, few-digits a, few-digits b, few-digits c)
 
 pub refusal-short : {k : ℕ} → k < 1000 → length (refusalLine k) ≤ 12
 refusal-short {k} h = omega (arith, refusal-length k, decimal-short 2 k h)
@@ -50,8 +60,8 @@ module _ (w l d : ℕ → ℕ) where
       let e = length-append (pairLines w l d n) (pairLine n (w n) (l n) (d n)) in
       same k n (λ q. rw q (omega arith)) (λ ne. omega (arith, lines-within k n (omega arith)))
 
-  -- k lines are at most 11 × k bytes
-  pub lines-short : (k : ℕ) → ((s : ℕ) → s < k → (s < 100) × (w s < 100) × (d s < 100)) → length (pairLines w l d k) ≤ 11 * k
+  -- k lines are at most k times as long as one can be
+  pub lines-short : (k : ℕ) → ((s : ℕ) → s < k → (s ≤ largest) × (w s ≤ largest) × (d s ≤ largest)) → length (pairLines w l d k) ≤ pairMost * k
   unfolding pairLines
   lines-short zero h = omega arith
   lines-short (suc k) h =

@@ -1,13 +1,13 @@
 -- Markets that meet the assumptions of the theory: for every n one of n proposers and n receivers, and Table 1 of
 -- document 000 with the extremes and a repair that document 01 gives for it. Assumes nothing.
-use Prim.Native.Nat.{ℕ, zero, suc}
+use Prim.Native.Nat.{ℕ}
 use mathlib.Core.Path.{_≡_, refl}
 use mathlib.Core.List.{List, [], _∷_}
 use lib.ListN.{getD}
 use Rattle.laws.specs.Values.{values}
 use Rattle.stable_theory.specs.Stable.Market.{Side, Market, Ranked, Mutual, Proper, Complete}
 use Rattle.stable_theory.specs.Stable.Vector.{Stable}
-use Rattle.stable_theory.specs.Least.Settle.{least, settle, onward, beaten, outranks}
+use Rattle.stable_theory.specs.Least.Settle.{least, settle, onward, rejected, outranks}
 use Rattle.stable_theory.specs.Least.LeastLaws.{least-zero-stable}
 use Rattle.stable_theory.specs.Least.Optimal.{proposer-optimal, receiver-optimal}
 use Rattle.stable_theory.specs.Stable.Holder.{mirror, holder, holding}
@@ -68,12 +68,12 @@ table1-proper = proper-lists men women refl refl
 
 -- student-best
 pub table1-student-best : values (partners table1 (proposer-optimal table1)) 0 7 ≡ 5 ∷ 4 ∷ 6 ∷ 3 ∷ 1 ∷ 0 ∷ 2 ∷ []
-unfolding table1 fromLists side partners proposer-optimal least settle onward beaten outranks
+unfolding table1 fromLists side partners proposer-optimal least settle onward rejected outranks
 table1-student-best = refl
 
 -- mentor-best
 pub table1-mentor-best : values (partners table1 (receiver-optimal table1)) 0 7 ≡ 1 ∷ 3 ∷ 0 ∷ 5 ∷ 4 ∷ 2 ∷ 6 ∷ []
-unfolding table1 fromLists side partners receiver-optimal proposer-optimal least settle onward beaten outranks mirror holder holding
+unfolding table1 fromLists side partners receiver-optimal proposer-optimal least settle onward rejected outranks mirror holder holding
 table1-mentor-best = refl
 
 -- the matching of document 01's sheet, as a place vector
@@ -82,10 +82,10 @@ table1-given = places table1 (λ i. getD (4 ∷ 5 ∷ 6 ∷ 3 ∷ 1 ∷ 2 ∷ 0 
 
 -- the sheet's distances of the repairs up of 0, 1 and 5
 pub table1-up : values (λ k. distance table1 table1-given (up table1 table1-given (getD (0 ∷ 1 ∷ 5 ∷ []) k 0))) 0 3 ≡ 2 ∷ 4 ∷ 2 ∷ []
-unfolding table1 table1-given fromLists side places least settle onward beaten outranks mirror holder holding up down distance moved
+unfolding table1 table1-given fromLists side places least settle onward rejected outranks mirror holder holding up down distance moved
 table1-up = refl
 
 -- the sheet's distances of the repairs down of 2, 3, 4 and 6
 pub table1-down : values (λ k. distance table1 table1-given (down table1 table1-given (getD (2 ∷ 3 ∷ 4 ∷ 6 ∷ []) k 0))) 0 4 ≡ 2 ∷ 4 ∷ 2 ∷ 2 ∷ []
-unfolding table1 table1-given fromLists side places least settle onward beaten outranks down distance moved
+unfolding table1 table1-given fromLists side places least settle onward rejected outranks down distance moved
 table1-down = refl

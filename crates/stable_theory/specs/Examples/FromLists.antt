@@ -10,7 +10,7 @@ use borrow.Author.Tests.{ltb-true, eqb-true}
 use Rattle.laws.specs.Choice.{both}
 use Rattle.laws.specs.Both.{both-left, both-right}
 use Rattle.laws.specs.Every.{every, every-true}
-use Rattle.laws.specs.First.{first, first-hit}
+use Rattle.laws.specs.First.{first-hit}
 use Rattle.stable_theory.specs.Stable.Market.{Side, sideFrom, Market, Ranked, Mutual, Proper}
 
 -- one side: a place is found by a search of the list

@@ -1,5 +1,5 @@
--- The two extreme matchings (document 01's student-best and mentor-best, for the students as proposers): the stable vector in
--- which every proposer is best off, and that in which every receiver is best off. Assumes nothing.
+-- The two extreme matchings (document 01's student-best and mentor-best, for the students as proposers): the stable
+-- vector in which every proposer is best off, and that in which every receiver is best off. Assumes nothing.
 use Prim.Native.Nat.{ℕ}
 use native.Mathlib.Omega.{arith}
 use Rattle.stable_theory.specs.Stable.Market.{Market, Proper, exchange, exchanged}

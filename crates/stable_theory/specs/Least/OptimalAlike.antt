@@ -1,6 +1,6 @@
--- The two extremes depend on the market's lists and places alone, and the one in which the receivers are best off is known by
--- its other side. Assumes nothing.
-use Prim.Native.Nat.{ℕ, _<_}
+-- The two extremes depend on the market's lists and places alone, and the one in which the receivers are best off is
+-- known by its other side. Assumes nothing.
+use Prim.Native.Nat.{ℕ}
 use mathlib.Core.Path.{refl, sym}
 use native.Mathlib.Omega.{arith}
 use Rattle.stable_theory.specs.Stable.Market.{Market, Proper, exchange, exchanged}

@@ -1,4 +1,4 @@
--- Whether a vector is stable, as a test that computes: nobody is beaten, and every receiver that is reached is held.
+-- Whether a vector is stable, as a test that computes: nobody is rejected, and every receiver that is reached is held.
 -- Assumes nothing.
 use Prim.Native.Nat.{ℕ, _<_}
 use mathlib.Core.Path.{_≡_, ap}
@@ -13,8 +13,8 @@ use Rattle.stable_theory.specs.Stable.Market.{Market, Proper}
 use Rattle.stable_theory.specs.Stable.Vector.{Within, Reaches, Stable}
 use Rattle.stable_theory.specs.Stable.Holding.{accept}
 use Rattle.stable_theory.specs.Stable.Holder.{holder, holder-found, holder-holds}
-use Rattle.stable_theory.specs.Least.Settle.{beaten}
-use Rattle.stable_theory.specs.Least.Beaten.{beaten-true, unbeaten-settled}
+use Rattle.stable_theory.specs.Least.Settle.{rejected}
+use Rattle.stable_theory.specs.Least.Rejected.{rejected-true, unrejected-settled}
 
 -- proposer j reaches receiver w
 unfoldable pub reaching : Market → (ℕ → ℕ) → ℕ → ℕ → Bool
@@ -24,9 +24,9 @@ reaching I p w j = both (ltb (I .proposers .place j w) (I .proposers .len j)) (l
 unfoldable pub unheld : Market → (ℕ → ℕ) → ℕ → Bool
 unheld I p w = both (some (reaching I p w) (I .proposers .size)) (not (ltb (holder I p w) (I .proposers .size)))
 
--- nobody is beaten, and no receiver is unheld
+-- nobody is rejected, and no receiver is unheld
 unfoldable pub isStable : Market → (ℕ → ℕ) → Bool
-isStable I p = both (not (some (beaten I p) (I .proposers .size))) (not (some (unheld I p) (I .receivers .size)))
+isStable I p = both (not (some (rejected I p) (I .proposers .size))) (not (some (unheld I p) (I .receivers .size)))
 
 module _ {I : Market} (M : Proper I) where
   -- who reaches passes the test
@@ -46,12 +46,12 @@ module _ {I : Market} (M : Proper I) where
   pub test-stable : {p : ℕ → ℕ} → Within I p → isStable I p ≡ true → Stable I p
   unfolding isStable unheld
   test-stable {p} W e =
-      let quiet = some (beaten I p) (I .proposers .size) in
+      let quiet = some (rejected I p) (I .proposers .size) in
       let lost = some (unheld I p) (I .receivers .size) in
       let b = not-true quiet (both-left (not quiet) (not lost) e) in
       let h = not-true lost (both-right (not quiet) (not lost) e) in
       record {
-        settled = unbeaten-settled M W (λ i u. some-none (beaten I p) b u);
+        settled = unrejected-settled M W (λ i u. some-none (rejected I p) b u);
         held = λ {j} {w} r.
             split (I .proposers .size) (holder I p w)
             (λ l. absurd (clash (both-true (some-true (reaching I p w) (r .pair .proposer) (reaching-reaches r)) (ap not (le-ltb _ _ l))) (some-none (unheld I p) h (r .pair .receiver))))
@@ -62,12 +62,12 @@ module _ {I : Market} (M : Proper I) where
   pub stable-test : {p : ℕ → ℕ} → Stable I p → isStable I p ≡ true
   unfolding isStable unheld
   stable-test {p} P =
-      both-true (ap not (some-false (beaten I p) (λ i u. unbeaten i u))) (ap not (some-false (unheld I p) (λ w v. held w v)))
+      both-true (ap not (some-false (rejected I p) (λ i u. unrejected i u))) (ap not (some-false (unheld I p) (λ w v. held w v)))
     where
-      unbeaten : (i : ℕ) → i < I .proposers .size → beaten I p i ≡ false
-      unbeaten i u =
-          tested (beaten I p i)
-          (λ e. let b = beaten-true M p u e in absurd (omega (arith, b .above, P .settled .best (b .holds) (b .reaches))))
+      unrejected : (i : ℕ) → i < I .proposers .size → rejected I p i ≡ false
+      unrejected i u =
+          tested (rejected I p i)
+          (λ e. let b = rejected-true M p u e in absurd (omega (arith, b .above, P .settled .best (b .holds) (b .reaches))))
           (λ e. e)
 
       held : (w : ℕ) → w < I .receivers .size → unheld I p w ≡ false

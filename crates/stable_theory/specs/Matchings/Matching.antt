@@ -1,6 +1,6 @@
--- Matchings in the words of document 01 and, for partial lists, of W-203. m i is the number of the receiver of proposer i;
--- the receivers' size or more means that i is alone. A matching and its place vector are made from each other here; that
--- stable says the same of both is shown in MatchingLaws. Assumes nothing.
+-- Matchings in the words of document 01 and, for partial lists, of W-203. m i is the number of the receiver of
+-- proposer i; the receivers' size or more means that i is alone. A matching and its place vector are made from each
+-- other here; that stable says the same of both is shown in MatchingLaws. Assumes nothing.
 use Prim.Native.Nat.{ℕ, _≤_, _<_}
 use mathlib.Core.Path.{_≡_}
 use lib.Dec.{ltb}

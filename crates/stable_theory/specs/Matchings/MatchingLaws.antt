@@ -1,4 +1,5 @@
--- Stable vectors are the place vectors of the stable matchings, and going there and back returns the start. Assumes nothing.
+-- Stable vectors are the place vectors of the stable matchings, and going there and back returns the start. Assumes
+-- nothing.
 use Prim.Native.Nat.{ℕ, _≤_, _<_, min}
 use mathlib.Core.Path.{_≡_, refl, sym, _∙_, ap}
 use mathlib.Core.Logic.{_↔_}

@@ -1,6 +1,6 @@
--- Complete lists, as in edition 1 of document 01: a matching is n numbers below n without repeats, and a pair blocks it when
--- both rank each other above their partners. That is the stability of Matching, and of a vector it is "settled, and everybody
--- is placed". Assumes nothing.
+-- Complete lists, as in edition 1 of document 01: a matching is n numbers below n without repeats, and a pair blocks
+-- it when both rank each other above their partners. That is the stability of Matching, and of a vector it is
+-- "settled, and everybody is placed". Assumes nothing.
 use Prim.Native.Nat.{ℕ, _≤_, _<_}
 use mathlib.Core.Path.{_≡_, sym, _∙_, ap}
 use mathlib.Core.Logic.{_↔_}

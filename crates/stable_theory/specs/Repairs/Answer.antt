@@ -1,13 +1,14 @@
--- The answer for a pair (document 01): up, down or fixed. The nearer repair is taken, up where both are as near; nearness is
--- the total weight of those moved, which is their number where every weight is 1. And robustness, document 01's grade: the
--- largest nearness of an answer less the asking proposer's own weight, 0 where all are fixed. Assumes nothing.
+-- The answer for a pair (document 01): up, down or fixed. The nearer repair is taken, up where both are as near;
+-- nearness is the total weight of those moved, which is their number where every weight is 1. And robustness,
+-- document 01's grade: the largest nearness of an answer less the asking proposer's own weight, 0 where all are
+-- fixed. Assumes nothing.
 use Prim.Native.Nat.{ℕ, _-_, _≤_, _<_}
 use mathlib.Core.Path.{_≡_}
 use mathlib.Core.Bool.{Bool, true, false, not}
 use lib.Dec.{eqb, ltb, leb}
 use Rattle.laws.specs.Choice.{pick, both}
 use Rattle.laws.specs.Sum.{sum}
-use Rattle.laws.specs.Largest.{largest}
+use Rattle.laws.specs.Maximum.{maximum}
 use Rattle.stable_theory.specs.Stable.Market.{Market}
 use Rattle.stable_theory.specs.Stable.Vector.{Holds}
 use Rattle.stable_theory.specs.Stable.Holding.{Same}
@@ -28,7 +29,8 @@ nearer true false no-further u d = U u
 nearer false true no-further u d = D d
 nearer false false no-further u d = F
 
--- The answer for the pair of s, worked out: a repair is there if the vector is stable. Who has no receiver has no pair, and F stands for that
+-- The answer for the pair of s, worked out: a repair is there if the vector is stable. Who has no receiver has no
+-- pair, and F stands for that
 unfoldable pub answerOf : Market → (ℕ → ℕ) → (ℕ → ℕ) → ℕ → Answer
 answerOf I c p s =
     let u = up I p s in
@@ -70,7 +72,7 @@ cost I c p s F = 0
 
 -- the largest cost of the answers a s
 unfoldable pub robustness : Market → (ℕ → ℕ) → (ℕ → ℕ) → (ℕ → Answer) → ℕ
-robustness I c p a = largest (I .proposers .size) (λ s. cost I c p s (a s))
+robustness I c p a = maximum (I .proposers .size) (λ s. cost I c p s (a s))
 
 -- a s is the answer for the pair of s; who has no receiver has no pair, and his cost is 0 too
 pub record AllAnswers (I : Market) (c p : ℕ → ℕ) (a : ℕ → Answer) : Type 0 where

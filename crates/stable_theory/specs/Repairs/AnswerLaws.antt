@@ -1,5 +1,5 @@
--- Demand 3 for vectors: the answer is fixed exactly when every stable vector holds the pair, and otherwise a stable vector
--- without the pair that moves least; there is one answer. Assumes nothing.
+-- Demand 3 for vectors: the answer is fixed exactly when every stable vector holds the pair, and otherwise a stable
+-- vector without the pair that moves least; there is one answer. Assumes nothing.
 use Prim.Native.Nat.{ℕ, _<_}
 use mathlib.Core.Path.{_≡_, refl}
 use mathlib.Core.Logic.{_↔_}
@@ -15,7 +15,7 @@ use Rattle.stable_theory.specs.Least.StableTest.{isStable, test-stable, 
 use Rattle.stable_theory.specs.Repairs.Repair.{Parts, Fixed, IsDown, IsUp, down, up, weight}
 use Rattle.stable_theory.specs.Repairs.RepairLaws.{down-is, down-settled, down-unique, up-is, up-unique, up-within}
 use Rattle.stable_theory.specs.Repairs.Moves.{weight-same, down-there, up-there, down-least, up-least, fixed-iff, down-none, up-none}
-use Rattle.stable_theory.specs.Repairs.Answer.{Answer, U, D, F, nearer, answerOf, Answers, nearer-up, nearer-down, neither, SameAnswer, same-up, same-down, same-fixed, Right}
+use Rattle.stable_theory.specs.Repairs.Answer.{Answer, F, nearer, answerOf, Answers, nearer-up, nearer-down, neither, SameAnswer, same-up, same-down, same-fixed, Right}
 
 module _ {I : Market} (M : Proper I) (c : ℕ → ℕ) {p : ℕ → ℕ} {s w : ℕ} (P : Stable I p) (h : Holds I p s w) where
   -- s is better off or worse off in k

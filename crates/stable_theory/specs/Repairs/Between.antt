@@ -1,4 +1,5 @@
--- A vector between two others moves no more than they do: whoever differs in it from one end differs in the two ends. Assumes nothing.
+-- A vector between two others moves no more than they do: whoever differs in it from one end differs in the two ends.
+-- Assumes nothing.
 use Prim.Native.Nat.{ℕ, _≤_}
 use native.Mathlib.Omega.{arith}
 use Rattle.laws.specs.SumLaws.{sum-passed}

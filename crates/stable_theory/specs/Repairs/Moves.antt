@@ -1,6 +1,6 @@
--- Nobody is moved in vain (W-206): each place in a repair lies between the given one and that of any stable vector without
--- the pair on the same side. So whoever the repair moves, that vector moves, and no count or weight of moved proposers is
--- smaller. Neither repair exists exactly where the pair is fixed. Assumes nothing.
+-- Nobody is moved in vain (W-206): each place in a repair lies between the given one and that of any stable vector
+-- without the pair on the same side. So whoever the repair moves, that vector moves, and no count or weight of moved
+-- proposers is smaller. Neither repair exists exactly where the pair is fixed. Assumes nothing.
 use Prim.Native.Nat.{ℕ, _≤_, _<_, min, max}
 use mathlib.Core.Path.{_≡_, refl}
 use mathlib.Core.Bool.{true}

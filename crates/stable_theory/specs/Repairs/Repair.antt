@@ -1,5 +1,6 @@
--- Repairs of a pair in document 01's words, of place vectors: p is the given stable vector, s the asking proposer, and the
--- pair is s with the receiver at his place in p. A vector is without the pair if it gives s another place. Assumes nothing.
+-- Repairs of a pair in document 01's words, of place vectors: p is the given stable vector, s the asking proposer,
+-- and the pair is s with the receiver at his place in p. A vector is without the pair if it gives s another place.
+-- Assumes nothing.
 use Prim.Native.Nat.{ℕ}
 use mathlib.Core.Path.{_≡_}
 use mathlib.Core.Bool.{Bool, not}
@@ -20,7 +21,8 @@ pub record Parts (I : Market) (p : ℕ → ℕ) (s : ℕ) (k : ℕ → ℕ) : Ty
 abbrev pub Fixed : Market → (ℕ → ℕ) → ℕ → Type 0
 Fixed I p s = (k : ℕ → ℕ) → Stable I k → k s ≡ p s
 
--- Repair down: of the stable vectors without the pair in which no proposer is better off, that in which each is best off
+-- Repair down: of the stable vectors without the pair in which no proposer is better off, that in which each is best
+-- off
 pub record IsDown (I : Market) (p : ℕ → ℕ) (s : ℕ) (d : ℕ → ℕ) : Type 0 where
   pub parts : Parts I p s d
   pub after : Before I p d

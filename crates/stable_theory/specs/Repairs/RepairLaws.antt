@@ -1,5 +1,5 @@
--- `down` and `up` are document 01's repairs where they are stable, and they are stable where a repair exists: a stable vector
--- without the pair in which no proposer is better off, or worse off. Assumes nothing.
+-- `down` and `up` are document 01's repairs where they are stable, and they are stable where a repair exists: a
+-- stable vector without the pair in which no proposer is better off, or worse off. Assumes nothing.
 use Prim.Native.Nat.{ℕ}
 use native.Mathlib.Omega.{arith}
 use Rattle.stable_theory.specs.Stable.Market.{Market, Proper, exchange, exchanged}
@@ -8,7 +8,7 @@ use Rattle.stable_theory.specs.Stable.Holding.{Same, hold-same, held-at}
 use Rattle.stable_theory.specs.Stable.Holder.{mirror}
 use Rattle.stable_theory.specs.Stable.Mirror.{mirror-of, mirror-back, mirror-order, stable-across}
 use Rattle.stable_theory.specs.Least.Settle.{onward}
-use Rattle.stable_theory.specs.Least.Beaten.{onward-here, onward-after, onward-before, onward-within}
+use Rattle.stable_theory.specs.Least.Rejected.{onward-here, onward-after, onward-before, onward-within}
 use Rattle.stable_theory.specs.Least.LeastLaws.{least-settled, least-after, least-least, least-stable}
 use Rattle.stable_theory.specs.Repairs.Repair.{Parts, IsDown, IsUp, down, up}
 

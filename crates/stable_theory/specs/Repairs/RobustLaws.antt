@@ -1,5 +1,5 @@
--- The grade of demand 3 for vectors: `robustness` is the least number g such that for each pair that is not fixed some stable
--- vector without it moves at most g besides the asking proposer. Assumes nothing.
+-- The grade of demand 3 for vectors: `robustness` is the least number g such that for each pair that is not fixed
+-- some stable vector without it moves at most g besides the asking proposer. Assumes nothing.
 use Prim.Native.Nat.{ℕ, _+_, _-_, _≤_, _<_}
 use mathlib.Core.Path.{_≡_, refl}
 use mathlib.Core.Bool.{not}
@@ -8,13 +8,13 @@ use lib.Dec.{eqb}
 use borrow.Author.Tests.{eq-eqb, ne-eqb, le-ltb}
 use Rattle.laws.specs.Choice.{pick, both, split}
 use Rattle.laws.specs.SumLaws.{sum-grown}
-use Rattle.laws.specs.Largest.{largest-ge, largest-le}
+use Rattle.laws.specs.Maximum.{maximum-ge, maximum-le}
 use Rattle.stable_theory.specs.Stable.Market.{Market, Proper}
 use Rattle.stable_theory.specs.Stable.Vector.{Holds, Stable}
 use Rattle.stable_theory.specs.Stable.Holding.{hold-at}
 use Rattle.stable_theory.specs.Repairs.Repair.{Parts, Fixed, moved, weight}
 use Rattle.stable_theory.specs.Repairs.Moves.{moved-moved}
-use Rattle.stable_theory.specs.Repairs.Answer.{Answer, U, D, F, answerOf, Answers, Nearest, Right, besides, cost, robustness, AllAnswers, Robust}
+use Rattle.stable_theory.specs.Repairs.Answer.{Answer, U, D, F, answerOf, Nearest, Right, besides, cost, robustness, AllAnswers, Robust}
 use Rattle.stable_theory.specs.Repairs.AnswerLaws.{answer-of, answer-right}
 
 -- without the pair, s is moved: the weight of those moved is that of the others and his own
@@ -63,13 +63,13 @@ module _ {I : Market} (M : Proper I) (c : ℕ → ℕ) {p : ℕ → ℕ} (P : St
   robustness-robust =
       record {
         robust = λ {s} h n.
-            answer-within M c P h (robustness I c p a) (a s) (answer-right M c P h (A .asked h)) (largest-ge (I .proposers .size) (λ s. cost I c p s (a s)) s (h .pair .proposer)) n;
+            answer-within M c P h (robustness I c p a) (a s) (answer-right M c P h (A .asked h)) (maximum-ge (I .proposers .size) (λ s. cost I c p s (a s)) s (h .pair .proposer)) n;
       }
 
   -- and is the least number that has it
   pub robustness-least : {g : ℕ} → Robust I c p g → robustness I c p a ≤ g
   unfolding robustness cost
   robustness-least {g} R =
-      largest-le (I .proposers .size) (λ s. cost I c p s (a s)) g
+      maximum-le (I .proposers .size) (λ s. cost I c p s (a s)) g
       (λ s u. split (I .proposers .len s) (p s) (λ l. rw (A .unplaced u l) (omega arith))
       (λ l. let h = hold-at M p u l in answer-least M c P h g (a s) (answer-right M c P h (A .asked h)) R))

@@ -1,5 +1,5 @@
--- The list of rotations is the canonical run of document 01, and it is complete.
--- The invariant of its recursion: the vector is stable, and the turns left make up for the places left. Assumes nothing.
+-- The list of rotations is the canonical run of document 01, and it is complete. The invariant of its recursion: the
+-- vector is stable, and the turns left make up for the places left. Assumes nothing.
 use Prim.Native.Nat.{ℕ, zero, suc, _+_, _≤_, _<_}
 use mathlib.Core.Path.{_≡_, sym}
 use mathlib.Core.List.{List, [], _∷_}
@@ -50,7 +50,8 @@ module _ (I : Market) where
   unfolding rotationsFrom
   rotations-end t p h = rw (le-ltb (lowest I p) (I .proposers .size) h, rotationsFrom)
 
--- Document 01's numbering from p on: a complete run, in which each rotation is, of those exposed, the one that holds the lowest proposer
+-- Document 01's numbering from p on: a complete run, in which each rotation is, of those exposed, the one that holds
+-- the lowest proposer
 pub record Canonical (I : Market) (p : ℕ → ℕ) (z : ℕ) (ρ : ℕ → Rotation) : Type 0 where
   pub complete : Complete I p z ρ
   pub lowest : {k : ℕ} {σ : Rotation} → k < z → Exposed I (prefix I ρ p k) σ → (b : ℕ) → b < σ .pairs → ρ k .man 0 ≤ σ .man b

@@ -1,5 +1,6 @@
--- One step of the numbering, for a program that finds the rotations one by one: whatever is exposed in the vector reached and holds the
--- lowest proposer is the rotation that comes next, pair for pair; and where none is exposed the numbering is at its end. Assumes nothing.
+-- One step of the numbering, for a program that finds the rotations one by one: whatever is exposed in the vector
+-- reached and holds the lowest proposer is the rotation that comes next, pair for pair; and where none is exposed the
+-- numbering is at its end. Assumes nothing.
 use Prim.Native.Nat.{ℕ, _≤_, _<_}
 use mathlib.Core.Path.{_≡_}
 use native.Mathlib.Omega.{arith}

@@ -1,5 +1,6 @@
--- Which rotations are exposed: the lowest cycle of `follow` is the one that holds the lowest proposer of all; over any set of proposers that is
--- closed under `follow` there is one inside it; and below every later stable vector there is one. Assumes nothing.
+-- Which rotations are exposed: the lowest cycle of `follow` is the one that holds the lowest proposer of all; over
+-- any set of proposers that is closed under `follow` there is one inside it; and below every later stable vector
+-- there is one. Assumes nothing.
 use Prim.Native.Nat.{ℕ, zero, suc, _≤_, _<_}
 use mathlib.Core.Path.{_≡_, refl, sym, _∙_, ap}
 use mathlib.Core.Bool.{Bool, true}
@@ -79,7 +80,8 @@ module _ {I : Market} (M : Proper I) {p : ℕ → ℕ} (S : Settled I p) where
         let a = I .proposers .size in
         first-upto (returns f a) a (rw (exposed-iter k h) at (returns-on f a (ρ .man 0) exposed-returns k))
 
-  -- Over a set of proposers in which each has a next receiver and his follower is in the set: from any of them the followers come round
+  -- Over a set of proposers in which each has a next receiver and his follower is in the set: from any of them the
+  -- followers come round
   module _ (q : ℕ → Bool) (on : (i : ℕ) → i < I .proposers .size → q i ≡ true → (w : ℕ) × (j : ℕ) × Next I p i w j × (q j ≡ true)) where
     -- they stay in the set
     iter-in : {x : ℕ} → x < I .proposers .size → q x ≡ true → (k : ℕ) → (iter (followers I p) k x < I .proposers .size) × (q (iter (followers I p) k x) ≡ true)

@@ -1,5 +1,6 @@
--- Closed subsets and stable vectors: a set is closed exactly when its vector is stable and has that set.
--- Why: the latest of the least vectors past its members is stable and is past them and what precedes them, which is in the set. Assumes nothing.
+-- Closed subsets and stable vectors: a set is closed exactly when its vector is stable and has that set. Why: the
+-- latest of the least vectors past its members is stable and is past them and what precedes them, which is in the
+-- set. Assumes nothing.
 use Prim.Native.Nat.{ℕ, zero, suc, _≤_, _<_, min, max}
 use mathlib.Core.Path.{_≡_, sym, _∙_, ap}
 use mathlib.Core.Bool.{Bool, true, not}

@@ -1,5 +1,5 @@
--- The steps of the lattice of stable vectors are the eliminations: no stable vector lies strictly between p and p after a rotation,
--- and where none lies strictly between p and a later r, r is p after a rotation. Assumes nothing.
+-- The steps of the lattice of stable vectors are the eliminations: no stable vector lies strictly between p and p
+-- after a rotation, and where none lies strictly between p and a later r, r is p after a rotation. Assumes nothing.
 use Prim.Native.Nat.{ℕ, _<_}
 use mathlib.Core.Path.{sym}
 use mathlib.Core.Logic.{_⊎_, inl, inr}
@@ -20,7 +20,8 @@ pub record Covers (I : Market) (p r : ℕ → ℕ) : Type 0 where
   pub between : {k : ℕ → ℕ} → Stable I k → Before I p k → Before I k r → Same I k p ⊎ Same I k r
 
 module _ {I : Market} (M : Proper I) {p : ℕ → ℕ} (P : Stable I p) where
-  -- an elimination is such a step: by the dichotomy a vector between is past the rotation, and so the later one, or not, and so the earlier
+  -- an elimination is such a step: by the dichotomy a vector between is past the rotation, and so the later one, or
+  -- not, and so the earlier
   pub eliminate-covers : {ρ : Rotation} → Exposed I p ρ → Covers I p (eliminate I ρ p)
   eliminate-covers {ρ} X = record {
     after = eliminate-after X;

@@ -1,8 +1,9 @@
--- Rotations, their order and closed subsets, with the names of Gusfield and Irving (1989) and of document 000. Each proof is a citation.
--- Proposers are the men, receivers the women; stable vectors are the stable matchings (MatchingLaws). `Before I p r` says that p dominates r.
--- Lists may be partial and the sides of different sizes; the runs are all runs of eliminations, the vectors all stable vectors.
--- Of document 000: Theorem 1, Corollary 1 and Lemma 2 hold as stated. Lemma 1 holds of two different rotations; as stated it also
--- speaks of a rotation and itself, which does not precede itself. Assumes nothing.
+-- Rotations, their order and closed subsets, with the names of Gusfield and Irving (1989) and of document 000. Each
+-- proof is a citation. Proposers are the men, receivers the women; stable vectors are the stable matchings
+-- (MatchingLaws). `Before I p r` says that p dominates r. Lists may be partial and the sides of different sizes; the
+-- runs are all runs of eliminations, the vectors all stable vectors. Of document 000: Theorem 1, Corollary 1 and
+-- Lemma 2 hold as stated. Lemma 1 holds of two different rotations; as stated it also speaks of a rotation and
+-- itself, which does not precede itself. Assumes nothing.
 use Prim.Native.Nat.{ℕ, suc, _+_, _-_, _*_, _≤_, _<_}
 use mathlib.Core.Path.{_≡_}
 use mathlib.Core.Bool.{Bool, true}
@@ -40,11 +41,13 @@ module _ {I : Market} (M : Proper I) where
       ((k : ℕ) → k < ρ .pairs → r (ρ .man k) ≤ p (ρ .man k)) ⊎ ((k : ℕ) → k < ρ .pairs → I .proposers .place (ρ .man k) (ρ .woman (suc k)) ≤ r (ρ .man k))
   rotation-whole P R X = dichotomy M P R X
 
-  -- if a stable matching dominates another and differs from it, a rotation is exposed in it whose elimination still dominates the other
+  -- if a stable matching dominates another and differs from it, a rotation is exposed in it whose elimination still
+  -- dominates the other
   pub rotation-below : {p r : ℕ → ℕ} → Stable I p → Stable I r → Before I p r → {i : ℕ} → i < I .proposers .size → p i < r i → Below I p r
   rotation-below P R le u m = below M P R le u m
 
-  -- the steps of the lattice are the eliminations, so the chains from the man-optimal matching are the runs: M / ρ comes right after M
+  -- the steps of the lattice are the eliminations, so the chains from the man-optimal matching are the runs: M / ρ
+  -- comes right after M
   pub lattice-step : {p : ℕ → ℕ} {ρ : Rotation} → Stable I p → Exposed I p ρ → Covers I p (eliminate I ρ p)
   lattice-step P X = eliminate-covers M P X
 
@@ -53,7 +56,8 @@ module _ {I : Market} (M : Proper I) where
       (ρ : Rotation) × Exposed I p ρ × Same I r (eliminate I ρ p)
   lattice-step-only P R c u m = covers-eliminate M P R c u m
 
-  -- document 01's numbering: from the man-optimal matching on, of the rotations exposed the one that holds the lowest man is eliminated
+  -- document 01's numbering: from the man-optimal matching on, of the rotations exposed the one that holds the lowest
+  -- man is eliminated
   pub numbering : Canonical I (proposer-optimal I) (total I) (rotation I)
   numbering = rotations-canonical M
 
@@ -154,6 +158,7 @@ module _ {I : Market} (M : Proper I) where
       (a b : ℕ) → a < σ .pairs → b < τ .pairs → σ .man a ≡ τ .man b → (SamePairs σ τ → ⊥) → Precedes I σ τ ⊎ Precedes I τ σ
   lemma-1 P R X Y = shared-comparable M (rotations-complete M) P R X Y
 
--- Lemma 2: of three matchings, each dominating the next, the middle one is no farther from an end than the ends are apart
+-- Lemma 2: of three matchings, each dominating the next, the middle one is no farther from an end than the ends are
+-- apart
 pub lemma-2 : (I : Market) (p q r : ℕ → ℕ) → Before I p q → Before I q r → (distance I q r ≤ distance I p r) × (distance I p q ≤ distance I p r)
 lemma-2 I p q r le ge = (distance-later I p q r le ge, distance-earlier I p q r le ge)

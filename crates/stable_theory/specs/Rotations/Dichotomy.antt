@@ -1,5 +1,5 @@
--- A stable vector is past the whole of a rotation or past none of it.
--- Why: over the later of the two vectors the move of one of the rotation moves his follower, and so all round the cycle. Assumes nothing.
+-- A stable vector is past the whole of a rotation or past none of it. Why: over the later of the two vectors the move
+-- of one of the rotation moves his follower, and so all round the cycle. Assumes nothing.
 use Prim.Native.Nat.{ℕ, zero, suc, _+_, _-_, _≤_, _<_}
 use mathlib.Core.Path.{_≡_, _∙_, ap}
 use mathlib.Core.Bool.{true, false}
@@ -68,7 +68,8 @@ module _ {I : Market} (M : Proper I) {p r : ℕ → ℕ} (P : Stable I p) (R : S
   pub unmoved-not : {i : ℕ} → Turn I p ρ i → r i < eliminate I ρ p i → passed I ρ r ≡ false
   unmoved-not t h = tested (passed I ρ r) (λ e. absurd (omega (arith, passed-all e t))) (λ e. e)
 
-  -- Dichotomy, in one statement: r is at or before p for everyone of the rotation, or at or after the next receiver for everyone
+  -- Dichotomy, in one statement: r is at or before p for everyone of the rotation, or at or after the next receiver
+  -- for everyone
   pub dichotomy : ((k : ℕ) → k < ρ .pairs → r (ρ .man k) ≤ p (ρ .man k)) ⊎
       ((k : ℕ) → k < ρ .pairs → I .proposers .place (ρ .man k) (ρ .woman (suc k)) ≤ r (ρ .man k))
   dichotomy =

@@ -1,5 +1,5 @@
--- What eliminating an exposed rotation does: each of its proposers is moved on, to the place of his next receiver, and the others stay.
--- The cycle: each pair has one before it and one after it. Assumes nothing.
+-- What eliminating an exposed rotation does: each of its proposers is moved on, to the place of his next receiver,
+-- and the others stay. The cycle: each pair has one before it and one after it. Assumes nothing.
 use Prim.Native.Nat.{ℕ, zero, suc, _≤_, _<_}
 use mathlib.Core.Path.{_≡_, refl, sym, _∙_, ap}
 use native.Mathlib.Omega.{arith}

@@ -1,5 +1,5 @@
--- The other side of a vector after an elimination: each receiver of the rotation has the proposer of the pair before, every other
--- whom she had. So no receiver is worse off. Assumes nothing.
+-- The other side of a vector after an elimination: each receiver of the rotation has the proposer of the pair before,
+-- every other whom she had. So no receiver is worse off. Assumes nothing.
 use Prim.Native.Nat.{ℕ, suc, _≤_, _<_}
 use mathlib.Core.Path.{_≡_, sym, _∙_, ap}
 use native.Mathlib.Omega.{arith}

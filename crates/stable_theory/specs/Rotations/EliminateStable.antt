@@ -1,6 +1,6 @@
--- Eliminating an exposed rotation keeps stability.
--- Why: whoever newly reaches a receiver has her as his next, or she is held by one she prefers to him; and a receiver of the rotation
--- goes from her holder to the proposer of the pair before, whom she prefers. Assumes nothing.
+-- Eliminating an exposed rotation keeps stability. Why: whoever newly reaches a receiver has her as his next, or she
+-- is held by one she prefers to him; and a receiver of the rotation goes from her holder to the proposer of the pair
+-- before, whom she prefers. Assumes nothing.
 use Prim.Native.Nat.{ℕ, suc, _≤_, _<_}
 use mathlib.Core.Path.{_≡_, sym, _∙_, ap}
 use native.Mathlib.Omega.{arith}

@@ -1,5 +1,5 @@
--- The computed follower is the follower: where `follow` names a proposer he holds i's next receiver, and where i has a next receiver
--- `follow` names her holder. Assumes nothing.
+-- The computed follower is the follower: where `follow` names a proposer he holds i's next receiver, and where i has
+-- a next receiver `follow` names her holder. Assumes nothing.
 use Prim.Native.Nat.{ℕ, suc, _≤_, _<_}
 use mathlib.Core.Path.{_≡_, sym, _∙_, ap}
 use mathlib.Core.Bool.{true, false}

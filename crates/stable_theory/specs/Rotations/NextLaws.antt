@@ -1,12 +1,12 @@
--- The next receiver: there is at most one, and whoever a later stable vector moves has one, at or before his place there,
--- and his follower is moved too. Assumes nothing.
+-- The next receiver: there is at most one, and whoever a later stable vector moves has one, at or before his place
+-- there, and his follower is moved too. Assumes nothing.
 use Prim.Native.Nat.{ℕ, zero, suc, _+_, _-_, _≤_, _<_}
 use mathlib.Core.Path.{_≡_, sym, _∙_, ap}
 use native.Mathlib.Omega.{arith}
 use Rattle.laws.specs.Choice.{split}
 use Rattle.stable_theory.specs.Stable.Market.{Market, Proper, Acceptable}
 use Rattle.stable_theory.specs.Stable.Vector.{Holds, Settled, Stable, Before}
-use Rattle.stable_theory.specs.Stable.Holding.{Same, accept-at, hold-at, holder-unique, rank-injective}
+use Rattle.stable_theory.specs.Stable.Holding.{Same, reach, reach-on, hold-same, accept-at, hold-at, holder-unique, rank-injective}
 use Rattle.stable_theory.specs.Stable.Lattice.{held-back, placed-too, opposition}
 use Rattle.stable_theory.specs.Rotations.Rotation.{Next, Unwilling}
 use Rattle.stable_theory.specs.Rotations.ExtraVector.{place-injective, hold-vector}
@@ -66,8 +66,8 @@ module _ {I : Market} (M : Proper I) where
         (λ m. let e : v ≡ I .proposers .at i k = place-injective M u A (omega arith) in rw e (h, H, b))
         (λ m. K v u l m)
 
-    -- One step of a search along i's list, all before place k being unwilling: she at k is willing, or else k is before r i,
-    -- since she at r i is willing, by opposition
+    -- One step of a search along i's list, all before place k being unwilling: she at k is willing, or else k is
+    -- before r i, since she at r i is willing, by opposition
     look : {C : Type 0} {i t : ℕ} → Holds I r i t → (k : ℕ) → p i < k → k ≤ r i → Unwilling I p i k →
         (Onward I p r i → C) → (k < r i → Unwilling I p i (suc k) → C) → C
     look {i = i} T k lt le₂ K found on =
@@ -111,3 +111,23 @@ module _ {I : Market} (M : Proper I) where
         (λ l. let H : Holds I r j w = record { pair = n .held .pair; is = omega (arith, n .held .is, le j (n .held .pair .proposer)) } in
         absurd (omega (arith, n .prefers, R .settled .best H (record { pair = n .pair; upto = next-upto m n }))))
         (λ l. l)
+
+    -- Where r leaves i at his place, receivers are at least as well off, so his next receiver does not come earlier
+    pub next-later : {i w v j h : ℕ} → r i ≡ p i → Next I p i w j → Next I r i v h → I .proposers .place i w ≤ I .proposers .place i v
+    next-later {i} {w} {v} {j} {h} e n m =
+        split (I .proposers .place i w) (I .proposers .place i v) (λ l. l)
+        (λ l. let (g, K, b) = n .between v (m .pair) (omega (arith, m .below)) l in
+        absurd (omega (arith, m .prefers, opposition M P R le K (m .held))))
+
+    -- and she is the same where r leaves his follower at his place too
+    pub next-kept : {i w j : ℕ} → r i ≡ p i → r j ≡ p j → Next I p i w j → Next I r i w j
+    next-kept {i} {w} {j} e f n =
+        record {
+          pair = n .pair;
+          below = omega (arith, n .below);
+          held = hold-same p r f (n .held);
+          prefers = n .prefers;
+          between = λ v A l g. let (h, K, b) = n .between v A (omega arith) g in
+              let (h₂, K₂) = R .held (reach-on p r le (reach K)) in
+              (h₂, K₂, omega (arith, opposition M P R le K K₂));
+        }

@@ -1,5 +1,6 @@
--- Document 01's numbering of the rotations, as it is computed: begin with the proposers' best stable vector, eliminate of the rotations
--- exposed the one that holds the lowest proposer, go on until none is exposed. Assumes nothing.
+-- Document 01's numbering of the rotations, as it is computed: begin with the proposers' best stable vector,
+-- eliminate of the rotations exposed the one that holds the lowest proposer, go on until none is exposed. Assumes
+-- nothing.
 use Prim.Native.Nat.{ℕ, zero, suc}
 use mathlib.Core.Bool.{Bool, true, false, not}
 use mathlib.Core.List.{List, [], _∷_}

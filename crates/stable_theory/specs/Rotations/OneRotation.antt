@@ -1,5 +1,6 @@
--- Every rotation exposed in any stable vector is one of a complete run's, pair for pair: the one, and the only one, that its elimination newly passes.
--- Why: the dichotomy, each of the two rotations against the vectors between which the other moves. Assumes nothing.
+-- Every rotation exposed in any stable vector is one of a complete run's, pair for pair: the one, and the only one,
+-- that its elimination newly passes. Why: the dichotomy, each of the two rotations against the vectors between which
+-- the other moves. Assumes nothing.
 use Prim.Native.Nat.{ℕ, suc, _+_, _-_, _≤_, _<_}
 use mathlib.Core.Path.{_≡_, sym, _∙_, ap}
 use mathlib.Core.Bool.{Bool, true, false, not}

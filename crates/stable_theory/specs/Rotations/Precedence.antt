@@ -1,5 +1,6 @@
--- One rotation precedes another exactly when the least stable vector past the other is past it too: one `least` answers the question over all runs.
--- Why: a run to that vector has eliminated the second, and up to there it has eliminated the first. Assumes nothing.
+-- One rotation precedes another exactly when the least stable vector past the other is past it too: one `least`
+-- answers the question over all runs. Why: a run to that vector has eliminated the second, and up to there it has
+-- eliminated the first. Assumes nothing.
 use Prim.Native.Nat.{ℕ, _<_}
 use mathlib.Core.Path.{_≡_, refl, sym, _∙_, ap}
 use mathlib.Core.Bool.{true, not}

@@ -1,5 +1,5 @@
--- From a stable vector to its set of rotations and back returns the start.
--- Invariant: after the first k rotations the vector of the set is the earlier of the given one and the complete run's. Assumes nothing.
+-- From a stable vector to its set of rotations and back returns the start. Invariant: after the first k rotations the
+-- vector of the set is the earlier of the given one and the complete run's. Assumes nothing.
 use Prim.Native.Nat.{ℕ, zero, suc, _+_, _≤_, _<_, min}
 use mathlib.Core.Path.{_≡_, refl, sym, _∙_}
 use mathlib.Core.Bool.{Bool, true, false}

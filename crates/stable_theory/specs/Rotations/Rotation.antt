@@ -17,8 +17,9 @@ Unwilling I p i k =
     (v : ℕ) → Acceptable I i v → p i < I .proposers .place i v → I .proposers .place i v < k →
     (h : ℕ) × Holds I p h v × (I .receivers .place v h < I .receivers .place v i)
 
--- Under p the next receiver of proposer i is w, and j is the one who holds her, i's follower: w is below i's place on his list,
--- she ranks i above j, and each receiver between is held by one she prefers to i. (Where one between is free there is no next receiver.)
+-- Under p the next receiver of proposer i is w, and j is the one who holds her, i's follower: w is below i's place on
+-- his list, she ranks i above j, and each receiver between is held by one she prefers to i. (Where one between is
+-- free there is no next receiver.)
 pub record Next (I : Market) (p : ℕ → ℕ) (i w j : ℕ) : Type 0 where
   pub pair : Acceptable I i w
   pub below : p i < I .proposers .place i w
@@ -32,8 +33,8 @@ pub record Rotation : Type 0 where
   pub man : ℕ → ℕ
   pub woman : ℕ → ℕ
 
--- The rotation is exposed in p: each one's next receiver is the receiver of the following pair, and the proposer of that pair holds her;
--- the last goes to the first; the proposers are distinct, and the lowest comes first
+-- The rotation is exposed in p: each one's next receiver is the receiver of the following pair, and the proposer of
+-- that pair holds her; the last goes to the first; the proposers are distinct, and the lowest comes first
 pub record Exposed (I : Market) (p : ℕ → ℕ) (ρ : Rotation) : Type 0 where
   pub some : 0 < ρ .pairs
   pub next : {k : ℕ} → k < ρ .pairs → Next I p (ρ .man k) (ρ .woman (suc k)) (ρ .man (suc k))
@@ -46,13 +47,15 @@ pub record Exposed (I : Market) (p : ℕ → ℕ) (ρ : Rotation) : Type 0 where
 unfoldable pub pairOf : Rotation → ℕ → ℕ
 pairOf ρ i = first (λ k. eqb (ρ .man k) i) (ρ .pairs)
 
--- the rotation eliminated: each of its proposers is at the place of the following pair's receiver, the others are where they were
+-- the rotation eliminated: each of its proposers is at the place of the following pair's receiver, the others are
+-- where they were
 unfoldable pub eliminate : Market → Rotation → (ℕ → ℕ) → ℕ → ℕ
 eliminate I ρ p i =
     let k = pairOf ρ i in
     elim (ltb k (ρ .pairs)) [ true ↦ I .proposers .place i (ρ .woman (suc k)) | false ↦ p i ]
 
--- r is past the rotation: the rotation's first proposer is at or after the place to which it moves him (and with him all, see Dichotomy)
+-- r is past the rotation: the rotation's first proposer is at or after the place to which it moves him (and with him
+-- all, see Dichotomy)
 unfoldable pub passed : Market → Rotation → (ℕ → ℕ) → Bool
 passed I ρ r = leb (I .proposers .place (ρ .man 0) (ρ .woman 1)) (r (ρ .man 0))
 

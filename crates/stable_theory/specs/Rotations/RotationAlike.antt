@@ -1,5 +1,5 @@
--- Markets that are alike have the same rotations with the same numbers: the numbering of document 01 is determined by the lists.
--- Assumes nothing.
+-- Markets that are alike have the same rotations with the same numbers: the numbering of document 01 is determined by
+-- the lists. Assumes nothing.
 use Prim.Native.Nat.{ℕ, zero, suc, _≤_, _<_}
 use mathlib.Core.Path.{_≡_, refl, sym, _∙_, ap}
 use native.Mathlib.Omega.{arith}
@@ -14,7 +14,7 @@ use Rattle.stable_theory.specs.Least.OptimalAlike.{proposer-optimal-alik
 use Rattle.stable_theory.specs.Rotations.Rotation.{Next, Rotation, Exposed, SamePairs, pairOf, eliminate}
 use Rattle.stable_theory.specs.Rotations.ExtraVector.{vector-sym}
 use Rattle.stable_theory.specs.Rotations.Numbering.{total, rotation}
-use Rattle.stable_theory.specs.Rotations.Eliminate.{turn, turn-in, eliminate-in, eliminate-out}
+use Rattle.stable_theory.specs.Rotations.Eliminate.{eliminate-in, eliminate-out}
 use Rattle.stable_theory.specs.Rotations.SameRotation.{exposed-agree, eliminate-agree}
 use Rattle.stable_theory.specs.Rotations.Subset.{after, prefix, Complete}
 use Rattle.stable_theory.specs.Rotations.Canonical.{Canonical, rotations-canonical}

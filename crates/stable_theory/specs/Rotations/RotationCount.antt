@@ -6,7 +6,6 @@ use Rattle.laws.specs.Choice.{split}
 use Rattle.laws.specs.Sum.{sum}
 use Rattle.laws.specs.Rising.{sum-two, sum-most, sum-const}
 use Rattle.stable_theory.specs.Stable.Market.{Market, Proper}
-use Rattle.stable_theory.specs.Stable.Market
 use Rattle.stable_theory.specs.Stable.Holding.{hold-at}
 use Rattle.stable_theory.specs.Stable.Lattice.{placed-too}
 use Rattle.stable_theory.specs.Least.Optimal.{proposer-optimal, proposer-optimal-stable}
@@ -14,6 +13,7 @@ use Rattle.stable_theory.specs.Rotations.Rotation.{Rotation, Exposed, el
 use Rattle.stable_theory.specs.Rotations.Eliminate.{turn-moved, eliminate-after, turn-at}
 use Rattle.stable_theory.specs.Rotations.Subset.{after, prefix, Complete}
 use Rattle.stable_theory.specs.Rotations.Rebuild.{run-vector}
+use Rattle.stable_theory.specs.Stable.Market
 
 -- a rotation has two pairs at least: nobody follows himself
 pub two-pairs : {I : Market} {p : ℕ → ℕ} {ρ : Rotation} → Exposed I p ρ → 2 ≤ ρ .pairs

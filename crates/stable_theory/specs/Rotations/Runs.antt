@@ -1,5 +1,5 @@
--- Runs of eliminations from the proposers' best stable vector: each stable vector is reached by one, and every run that reaches it
--- has eliminated exactly the rotations of its set, none twice. Assumes nothing.
+-- Runs of eliminations from the proposers' best stable vector: each stable vector is reached by one, and every run
+-- that reaches it has eliminated exactly the rotations of its set, none twice. Assumes nothing.
 use Prim.Native.Nat.{ℕ, zero, suc, _+_, _≤_, _<_}
 use mathlib.Core.Path.{_≡_, refl, sym, _∙_}
 use mathlib.Core.Bool.{Bool, true}
@@ -41,7 +41,8 @@ pub run-agree : {I : Market} {p q : ℕ → ℕ} {l : List Rotation} → Same I 
 run-agree d (start e) = start (λ i u. d i u ∙ e i u)
 run-agree d (then r X e) = then r X (λ i u. d i u ∙ e i u)
 
--- the place in a run to p at which a rotation is eliminated: the run so far, to a vector that exposes it, no later than p
+-- the place in a run to p at which a rotation is eliminated: the run so far, to a vector that exposes it, no later
+-- than p
 pub record Cut (I : Market) (p : ℕ → ℕ) (ρ : Rotation) : Type 0 where
   pub vector : ℕ → ℕ
   pub so-far : List Rotation

@@ -1,4 +1,5 @@
--- What is said of a rotation and a vector depends on the rotation's pairs and the vector's values alone. Assumes nothing.
+-- What is said of a rotation and a vector depends on the rotation's pairs and the vector's values alone. Assumes
+-- nothing.
 use Prim.Native.Nat.{ℕ, suc, _<_}
 use mathlib.Core.Path.{_≡_, refl, sym, _∙_, ap}
 use native.Mathlib.Omega.{arith}

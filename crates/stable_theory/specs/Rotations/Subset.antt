@@ -1,4 +1,5 @@
--- Sets of rotation numbers and stable vectors, each from the other, over rotations ρ 0 to ρ (z - 1). A set is a test of numbers. Assumes nothing.
+-- Sets of rotation numbers and stable vectors, each from the other, over rotations ρ 0 to ρ (z - 1). A set is a test
+-- of numbers. Assumes nothing.
 use Prim.Native.Nat.{ℕ, zero, suc, _<_}
 use mathlib.Core.Path.{_≡_}
 use mathlib.Core.Bool.{Bool, true, false, not}

@@ -1,9 +1,10 @@
--- Two markets with the same sizes, lists and places, and vectors that agree: what holds in one holds in the other. Assumes nothing.
+-- Two markets with the same sizes, lists and places, and vectors that agree: what holds in one holds in the other.
+-- Assumes nothing.
 use Prim.Native.Nat.{ℕ, _<_}
 use mathlib.Core.Path.{_≡_, refl, sym, _∙_, ap}
 use native.Mathlib.Omega.{arith}
 use Rattle.stable_theory.specs.Stable.Market.{Side, Market, Ranked, Mutual, Proper, exchange, Acceptable}
-use Rattle.stable_theory.specs.Stable.Vector.{Within, Holds, Reaches, Settled, Stable, Before, Mirror}
+use Rattle.stable_theory.specs.Stable.Vector.{Within, Holds, Reaches, Settled, Stable, Mirror}
 use Rattle.stable_theory.specs.Stable.Holding.{Same}
 
 -- Two sides with the same lists and places, over so many others

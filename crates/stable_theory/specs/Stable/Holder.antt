@@ -21,7 +21,8 @@ holding I p w i =
 unfoldable pub holder : Market → (ℕ → ℕ) → ℕ → ℕ
 holder I p w = first (holding I p w) (I .proposers .size)
 
--- the receivers' vector of the matching whose proposers' vector is p: each has the place of her holder, or her list's end
+-- the receivers' vector of the matching whose proposers' vector is p: each has the place of her holder, or her list's
+-- end
 unfoldable pub mirror : Market → (ℕ → ℕ) → ℕ → ℕ
 mirror I p w =
     let i = holder I p w in

@@ -1,5 +1,5 @@
--- What holding and reaching say: one proposer holds at most one receiver, and under a settled vector one receiver is held
--- by at most one proposer. Assumes nothing.
+-- What holding and reaching say: one proposer holds at most one receiver, and under a settled vector one receiver is
+-- held by at most one proposer. Assumes nothing.
 use Prim.Native.Nat.{ℕ, _<_}
 use mathlib.Core.Path.{_≡_, sym, _∙_, ap}
 use native.Mathlib.Omega.{arith}

@@ -1,5 +1,6 @@
--- The lattice of stable vectors: the pointwise min and max of two of them are stable, the same proposers are placed and the
--- same receivers held in each, and what is better for every proposer is worse for every receiver. Assumes nothing.
+-- The lattice of stable vectors: the pointwise min and max of two of them are stable, the same proposers are placed
+-- and the same receivers held in each, and what is better for every proposer is worse for every receiver. Assumes
+-- nothing.
 use Prim.Native.Nat.{ℕ, _≤_, _<_, min, max}
 use native.Mathlib.Omega.{arith}
 use Rattle.laws.specs.Choice.{split}

@@ -1,5 +1,6 @@
 -- A market of proposers and receivers with ranked lists, either side of which may be the students of document 01.
--- Lists may be partial and the sides of different sizes; complete lists are the case that everybody is listed. Assumes nothing.
+-- Lists may be partial and the sides of different sizes; complete lists are the case that everybody is listed.
+-- Assumes nothing.
 use Prim.Native.Nat.{ℕ, _<_}
 use mathlib.Core.Path.{_≡_}
 use lib.Dec.{eqb}

@@ -54,8 +54,8 @@ module _ {I : Market} (M : Proper I) where
   pub mirror-unique : {p t u : ℕ → ℕ} → Mirror I p t → Mirror I p u → (w : ℕ) → w < I .receivers .size → t w ≡ u w
   mirror-unique X Y w v = omega (arith, mirror-le X Y w v, mirror-le Y X w v)
 
-  -- v reaches i under t and i reaches v under p: then i holds v. For v is held under p by one whom she ranks at or above i;
-  -- her place under t is his rank, and that is i's rank or after; so he is i.
+  -- v reaches i under t and i reaches v under p: then i holds v. For v is held under p by one whom she ranks at or
+  -- above i; her place under t is his rank, and that is i's rank or after; so he is i.
   rival : {p t : ℕ → ℕ} → Mirror I p t → Stable I p → {i v : ℕ} → Reaches (exchange I) t v i → I .proposers .place i v ≤ p i → Holds I p i v
   rival X P {i} {v} k le =
       let g : Reaches I _ i v = record { pair = acceptable-back (k .pair); upto = le } in

@@ -1,5 +1,5 @@
--- Who is placed and who is held: of two stable vectors, one at or before the other, the same proposers are placed and the
--- same receivers held. The only use of the pigeonhole for this is the squeeze. Assumes nothing.
+-- Who is placed and who is held: of two stable vectors, one at or before the other, the same proposers are placed and
+-- the same receivers held. The only use of the pigeonhole for this is the squeeze. Assumes nothing.
 use Prim.Native.Nat.{ℕ, _<_}
 use mathlib.Core.Path.{_≡_, sym, _∙_}
 use native.Mathlib.Omega.{arith}

@@ -8,7 +8,7 @@ use lib.ListN.{length, set, drop, length-append}
 use lib.Seq.{sets-eq}
 use Rattle.laws.specs.Overwrite.{overwritten, overwritten-none, overwritten-on, length-overwritten}
 use Rattle.format.specs.Format.{listsStart, size}
-use Rattle.format.specs.Write.{Counted, pairBytes, directory, bookOf}
+use Rattle.format.specs.Write.{SizedLists, pairBytes, directory, bookOf}
 use Rattle.format.specs.Laws.Written.{length-directory}
 
 -- What the loop that writes the directory knows after k pairs: they stand from byte 2 on
@@ -42,7 +42,7 @@ module _ {n : ℕ} {l : List ℕ} (room : listsStart n ≤ length l) where
   pairs-end {k} P h = let q : k ≡ 2 * n = omega (arith, P .within) in P .same ∙ ap (λ (m : ℕ). overwritten l 2 (directory n m)) q
 
 -- the two bytes, the directory and the lists are the book, and what is past it stays
-pub filled-book : {n : ℕ} {l : List ℕ} (out : List ℕ) {front filed whole : List ℕ} → Counted n l → size n ≤ length out → front ≡ set (set out 0 1) 1 n
+pub filled-book : {n : ℕ} {l : List ℕ} (out : List ℕ) {front filed whole : List ℕ} → SizedLists n l → size n ≤ length out → front ≡ set (set out 0 1) 1 n
     → filed ≡ overwritten front 2 (directory n (2 * n)) → whole ≡ overwritten filed (listsStart n) l → whole ≡ bookOf n l ++ drop (size n) out
 unfolding bookOf size
 filled-book {n} {l} out C h e f g =

@@ -4,11 +4,11 @@ use mathlib.Core.Path.{_≡_}
 use mathlib.Core.List.{List}
 use native.Mathlib.Omega.{arith}
 use lib.ListN.{length}
-use Rattle.format.specs.Write.{given, givenList, Counted}
+use Rattle.format.specs.Write.{given, givenList, SizedLists}
 use Rattle.format.specs.Laws.Bounds.{list-end}
 use Rattle.format.specs.Laws.Holds.{Holds, part-holds}
 
-module _ {n : ℕ} {l : List ℕ} (C : Counted n l) {k : ℕ} (h : k < 2 * n) where
+module _ {n : ℕ} {l : List ℕ} (C : SizedLists n l) {k : ℕ} (h : k < 2 * n) where
   -- list k lies within the list bytes
   pub given-end : k * n + n ≤ length l
   given-end = omega (arith, list-end n h, C .long)

@@ -1,4 +1,5 @@
--- `list_of` meets its contract: the bytes at the offset of the list, as many as it is long, are its stretch. Assumes nothing.
+-- `list_of` meets its contract: the bytes at the offset of the list, as many as it is long, are its stretch. Assumes
+-- nothing.
 use Prim.Native.Nat.{ℕ}
 use mathlib.Core.Path.{_∙_, ap₂}
 use lib.ListN.{take, drop}
@@ -17,7 +18,8 @@ bytes-at-requires c κs = search needs
 
 returns : tie.Need-returns
 returns c =
-    c .bytes-at .ensures ∙ ap₂ (λ (len at : ℕ). take len (drop at (c .before .before .before .before .args .b .now))) (c .before .length-of .ensures .0) (c .before .before .offset-of .ensures .0)
+    let begin : tie.Start = search in
+    c .bytes-at .ensures ∙ ap₂ (λ (len at : ℕ). take len (drop at (begin .args .b .now))) (c .before .length-of .ensures .0) (c .before .before .offset-of .ensures .0)
 
 pub list-of-spec : {M : Type 1} → statement M
 list-of-spec = tie.close (tie.spec offset-of-requires length-of-requires bytes-at-requires returns)

@@ -1,57 +1,37 @@
--- `first_faulty` meets its contract. The loop's invariant: no entry before place j is faulty, and exactly the
--- entries before place j are marked. The measure is what is left of the list. Assumes nothing.
+-- `first_faulty` meets its contract. The loop's invariant: no entry before place j is faulty, and exactly the entries
+-- before place j are marked. The measure is what is left of the list. Assumes nothing.
 use Prim.Native.Nat.{_-_}
 use mathlib.Core.Path.{refl, sym}
 use native.Mathlib.Omega.{arith}
 use lib.ListN.{length}
-use Rattle.format.specs.Format.{byte}
+use Rattle.format.specs.Format.{entryIn}
 use Rattle.book.specs.Laws.Search.{Sought, sought-start, sought-stranger, sought-repeat, sought-on, sought-end}
 use Rattle.book.proofs.lists.first_faulty.Statement.{statement}
 use Rattle.book.proofs.lists.first_faulty.Tie as tie
 
 abbrev Inv-loop : tie.InvT-loop
-Inv-loop list n marks₀ j₀ marks j = Sought n (byte list) (length list) marks j
+Inv-loop list n marks₀ j₀ marks j = Sought n (entryIn list) (length list) marks j
 
 abbrev μ-loop : tie.MeasureT-loop
 μ-loop list n marks₀ j₀ marks j = length list - j
 
-loop-holds : tie.Need-loop-holds Inv-loop μ-loop
-loop-holds c = sought-start _ _ _ _ refl
-
-shared-slice-read-wide : tie.Need-shared-slice-read-wide Inv-loop μ-loop
-shared-slice-read-wide c = omega arith
-
-wide-requires : tie.Need-wide-requires Inv-loop μ-loop
-wide-requires c κs = tt
-
+-- an entry that was read is the list's, and a byte
 returns : tie.Need-returns Inv-loop μ-loop
 returns c =
-    sym (sought-stranger (c .before .before .before .before .loop .inv) (omega arith) (c .before .wide .ensures .0) (c .if1 .taken))
-
-array-read-if2 : tie.Need-array-read-if2 Inv-loop μ-loop
-array-read-if2 c = omega arith
+    let l : tie.At-loop Inv-loop μ-loop = search in
+    sym (sought-stranger (l .loop .inv) (omega arith) (c .before .entry-in .ensures .0) (c .if1 .taken))
 
 returns-2 : tie.Need-returns-2 Inv-loop μ-loop
 returns-2 c =
-    sym
-    (sought-repeat (c .before .before .before .before .before .loop .inv) (omega arith) (c .before .before .wide .ensures .0) (c .before .before .wide .ensures .1) (c .if2 .taken))
-
-array-write-marks : tie.Need-array-write-marks Inv-loop μ-loop
-array-write-marks c = c .before .before .wide .ensures .1
-
-add-j : tie.Need-add-j Inv-loop μ-loop
-add-j c = omega arith
-
-loop-less : tie.Need-loop-less Inv-loop μ-loop
-loop-less c = omega arith
+    let e : tie.After-entry-in Inv-loop μ-loop = search in
+    let l : tie.At-loop Inv-loop μ-loop = search in
+    sym (sought-repeat (l .loop .inv) (omega arith) (e .entry-in .ensures .0) (e .entry-in .ensures .1) (c .if2 .taken))
 
 loop-again : tie.Need-loop-again Inv-loop μ-loop
 loop-again c =
-    sought-on (c .before .before .before .before .before .loop .inv) (omega arith) (c .before .before .wide .ensures .0) (c .before .before .wide .ensures .1)
-    (omega arith) (c .if2 .left)
-
-returns-3 : tie.Need-returns-3 Inv-loop μ-loop
-returns-3 c = sym (sought-end (c .before .loop .inv) (c .loop-test .left))
+    let e : tie.After-entry-in Inv-loop μ-loop = search in
+    let l : tie.At-loop Inv-loop μ-loop = search in
+    sought-on (l .loop .inv) (omega arith) (e .entry-in .ensures .0) (e .entry-in .ensures .1) (omega arith) (c .if2 .left)
 
 pub first-faulty-spec : {M : Type 1} → statement M
 first-faulty-spec =
@@ -59,14 +39,13 @@ first-faulty-spec =
     (tie.spec
     Inv-loop
     μ-loop
-    loop-holds
-    shared-slice-read-wide
-    wide-requires
+    (λ c. sought-start _ _ _ _ refl)
+    (λ c κs. omega arith)
     returns
-    array-read-if2
+    (λ c. omega arith)
     returns-2
-    array-write-marks
-    add-j
-    loop-less
+    (λ c. omega arith)
+    (λ c. omega arith)
+    (λ c. omega arith)
     loop-again
-    returns-3)
+    (λ c. sym (sought-end (c .before .loop .inv) (c .loop-test .left))))

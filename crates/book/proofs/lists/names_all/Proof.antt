@@ -17,10 +17,13 @@ slice-aggregate-count-marks c = search needs
 
 count-marks-requires : tie.Need-count-marks-requires
 count-marks-requires c κs =
-    let M = c .before .mark-all .ensures in (omega (arith, M .long, c .before .before .before .before .pre), c .before .before .before .before .pre, mark-small M (c .before .before .before .before .pre))
+    let begin : tie.Start = search in
+    let M = c .before .mark-all .ensures in (omega (arith, M .long, begin .pre), begin .pre, mark-small M (begin .pre))
 
 returns : tie.Need-returns
-returns c = ap (λ (k : ℕ). eqb k (c .before .before .before .before .before .args .n)) (c .count-marks .ensures ∙ marks-count (c .before .before .mark-all .ensures) (c .before .before .before .before .before .pre))
+returns c =
+    let begin : tie.Start = search in
+    ap (λ (k : ℕ). eqb k (begin .args .n)) (c .count-marks .ensures ∙ marks-count (c .before .before .mark-all .ensures) (begin .pre))
 
 pub names-all-spec : {M : Type 1} → statement M
 names-all-spec =

@@ -6,8 +6,9 @@ use native.Mathlib.Omega.{arith}
 use borrow.Author.Needs.{needs}
 use Rattle.format.specs.Verdict.{verdictOf}
 use Rattle.format.specs.Format.{entry, listLength, offset}
-use Rattle.book.specs.Laws.ListRules.{FineLists, lists-start, lists-on, lists-stop, lists-end}
+use Rattle.format.specs.Check.{Listed}
 use Rattle.format.specs.Laws.Directory.{listed, stretch-holds}
+use Rattle.book.specs.Laws.ListRules.{FineLists, lists-start, lists-on, lists-stop, lists-end}
 use Rattle.book.proofs.rules.check_lists.Statement.{statement}
 use Rattle.book.proofs.rules.check_lists.Tie as tie
 
@@ -17,47 +18,28 @@ Inv-loop book n k₀ k = FineLists n (entry book) (listLength book) (offset book
 abbrev μ-loop : tie.MeasureT-loop
 μ-loop book n k₀ k = 2 * n - k
 
-loop-holds : tie.Need-loop-holds Inv-loop μ-loop
-loop-holds c = lists-start
+-- in each turn list k lies within the book
+abbrev start : tie.In-loop Inv-loop μ-loop → tie.Start Inv-loop μ-loop
+start c = search
 
-mul-loop : tie.Need-mul-loop Inv-loop μ-loop
-mul-loop c = omega arith
-
-offset-of-requires : tie.Need-offset-of-requires Inv-loop μ-loop
-offset-of-requires c κs = listed (c .before .before .before .pre) (c .loop-test .taken) .pair
-
-list-of-requires : tie.Need-list-of-requires Inv-loop μ-loop
-list-of-requires c κs = listed (c .before .before .before .before .pre) (c .before .loop-test .taken)
-
-check-list-requires : tie.Need-check-list-requires Inv-loop μ-loop
-check-list-requires c κs = omega arith
-
-enum-told : tie.Need-enum-told Inv-loop μ-loop
-enum-told c = search needs
-
-enum-told-2 : tie.Need-enum-told-2 Inv-loop μ-loop
-enum-told-2 c = search needs
+lies : (c : tie.In-loop Inv-loop μ-loop) → Listed (start c .args .book .now) (c .before .loop .k)
+lies c = listed (start c .pre) (c .loop-test .taken)
 
 returns : tie.Need-returns Inv-loop μ-loop
 returns c =
-    lists-stop (c .before .before .before .before .before .before .loop .inv) (c .before .before .before .before .before .loop-test .taken)
-    (stretch-holds (listed (c .before .before .before .before .before .before .before .before .pre) (c .before .before .before .before .before .loop-test .taken))
-    (c .before .before .before .list-of .ensures)) (c .before .before .before .before .offset-of .ensures .0) (c .before .before .check-list .ensures) (ap verdictOf (c .enum-told2 .given .1))
-
-add-k : tie.Need-add-k Inv-loop μ-loop
-add-k c = omega arith
-
-loop-less : tie.Need-loop-less Inv-loop μ-loop
-loop-less c = omega arith
+    let l : tie.After-list-of Inv-loop μ-loop = search in
+    let o : tie.After-offset-of Inv-loop μ-loop = search in
+    let t : tie.In-loop Inv-loop μ-loop = search in
+    lists-stop (t .before .loop .inv) (t .loop-test .taken) (stretch-holds (lies t) (l .list-of .ensures)) (o .offset-of .ensures .0)
+    (c .before .before .check-list .ensures) (ap verdictOf (c .enum-told2 .given .1))
 
 loop-again : tie.Need-loop-again Inv-loop μ-loop
 loop-again c =
-    lists-on (c .before .before .before .before .before .before .loop .inv) (c .before .before .before .before .before .loop-test .taken)
-    (stretch-holds (listed (c .before .before .before .before .before .before .before .before .pre) (c .before .before .before .before .before .loop-test .taken))
-    (c .before .before .before .list-of .ensures)) (c .before .before .before .before .offset-of .ensures .0) (c .before .before .check-list .ensures) (ap verdictOf (c .enum-told .given .1))
-
-returns-2 : tie.Need-returns-2 Inv-loop μ-loop
-returns-2 c = lists-end (c .before .loop .inv) (c .loop-test .left)
+    let l : tie.After-list-of Inv-loop μ-loop = search in
+    let o : tie.After-offset-of Inv-loop μ-loop = search in
+    let t : tie.In-loop Inv-loop μ-loop = search in
+    lists-on (t .before .loop .inv) (t .loop-test .taken) (stretch-holds (lies t) (l .list-of .ensures)) (o .offset-of .ensures .0)
+    (c .before .before .check-list .ensures) (ap verdictOf (c .enum-told .given .1))
 
 pub check-lists-spec : {M : Type 1} → statement M
 check-lists-spec =
@@ -65,15 +47,15 @@ check-lists-spec =
     (tie.spec
     Inv-loop
     μ-loop
-    loop-holds
-    mul-loop
-    offset-of-requires
-    list-of-requires
-    check-list-requires
-    enum-told
-    enum-told-2
+    (λ c. lists-start)
+    (λ c. omega arith)
+    (λ c κs. lies c .pair)
+    (λ c κs. lies (c .before))
+    (λ c κs. omega arith)
+    (λ c. search needs)
+    (λ c. search needs)
     returns
-    add-k
-    loop-less
+    (λ c. omega arith)
+    (λ c. omega arith)
     loop-again
-    returns-2)
+    (λ c. lists-end (c .before .loop .inv) (c .loop-test .left)))

@@ -1,11 +1,13 @@
--- `eliminate_set` meets its contract. The loop's invariant: `at` is where rotation number k stands, and of those before it the
--- ones in the set are eliminated. Assumes nothing.
+-- `eliminate_set` meets its contract. The loop's invariant: `at` is where rotation number k stands, and of those
+-- before it the ones in the set are eliminated. Assumes nothing.
 use Prim.Native.Nat.{_-_, _≤_}
 use mathlib.Core.Path.{_≡_, refl, sym, _∙_}
 use native.Mathlib.Omega.{arith}
 use lib.ListN.{length}
-use Rattle.precedence.specs.Laws.ListRead.{startIn, start-next, start-room}
-use Rattle.closed_subsets.specs.Laws.SetCode.{SetEliminated, set-start, set-eliminable, set-on}
+use Rattle.precedence.specs.ListRead.{startIn}
+use Rattle.precedence.specs.Laws.ListRead.{start-next, start-room}
+use Rattle.closed_subsets.specs.SetPlaces.{SetEliminated}
+use Rattle.closed_subsets.specs.Laws.SetCode.{set-start, set-eliminable, set-on}
 use borrow.Author.Needs.{needs}
 use Rattle.closed_subsets.proofs.closed.eliminate_set.Statement.{statement}
 use Rattle.closed_subsets.proofs.closed.eliminate_set.Tie as tie
@@ -16,35 +18,49 @@ Inv-loop n pranks rranks list set p₀ t₀ at₀ k₀ p t at k = (k ≤ length 
 abbrev μ-loop : tie.MeasureT-loop
 μ-loop n pranks rranks list set p₀ t₀ at₀ k₀ p t at k = length set - k
 
-loop-holds : tie.Need-loop-holds Inv-loop μ-loop
-loop-holds c = let s = c .before .before .before .before .before .before in (omega arith, refl, s .pre .places, s .pre .bests, set-start (s .args .n) (s .args .pranks .now) (s .args .list .now) (s .args .set .now) (s .args .p .now))
+abbrev start : tie.At-loop Inv-loop μ-loop → tie.Start Inv-loop μ-loop
+start c = search
 
-shared-slice-read-eliminate-marked : tie.Need-shared-slice-read-eliminate-marked Inv-loop μ-loop
-shared-slice-read-eliminate-marked c = search needs
+abbrev turn : tie.After-eliminate-marked Inv-loop μ-loop → tie.In-loop Inv-loop μ-loop
+turn c = search
+
+loop-holds : tie.Need-loop-holds Inv-loop μ-loop
+loop-holds c =
+    let s : tie.Start Inv-loop μ-loop = search in
+    (omega arith, refl, s .pre .places, s .pre .bests, set-start _ _ _ _ _)
 
 eliminate-marked-requires : tie.Need-eliminate-marked-requires Inv-loop μ-loop
-eliminate-marked-requires c κs = let s = c .before .before .before .before .before .before .before .before .before .before .before in let v = c .before .before .before .before .loop .inv in set-eliminable (s .pre) (c .before .before .before .loop-test .taken) (v .1) (v .2) (v .3)
+eliminate-marked-requires c κs =
+    let t : tie.In-loop Inv-loop μ-loop = search in
+    let v = t .before .loop .inv in
+    set-eliminable (start (t .before) .pre) (t .loop-test .taken) (v .1) (v .2) (v .3)
 
 next-start-requires : tie.Need-next-start-requires Inv-loop μ-loop
-next-start-requires c κs = let s = c .before .before .before .before .before .before .before .before .before .before .before .before .before .before .before .before in start-room (s .pre .readable) (c .before .before .before .before .before .before .before .before .loop-test .taken) (c .before .before .before .before .before .before .before .before .before .loop .inv .1)
-
-add-k : tie.Need-add-k Inv-loop μ-loop
-add-k c = omega (arith, c .before .before .before .before .before .before .before .before .before .loop-test .taken)
-
-loop-less : tie.Need-loop-less Inv-loop μ-loop
-loop-less c = omega (arith, c .before .before .before .before .before .before .before .before .before .loop-test .taken)
+next-start-requires c κs =
+    let e : tie.After-eliminate-marked Inv-loop μ-loop = search in
+    let t = turn e in
+    start-room (start (t .before) .pre .readable) (t .loop-test .taken) (t .before .loop .inv .1)
 
 loop-again : tie.Need-loop-again Inv-loop μ-loop
-loop-again c = let s = c .before .before .before .before .before .before .before .before .before .before .before .before .before .before .before .before .before in let v = c .before .before .before .before .before .before .before .before .before .before .loop .inv in (omega (arith, c .before .before .before .before .before .before .before .before .before .loop-test .taken), start-next (s .args .list .now) (c .before .before .before .before .before .before .before .before .before .before .loop .k) (v .1) (c .next-start .ensures), c .before .before .before .before .before .eliminate-marked .kept .1 .1 .1 .1 .1 .1 .0 ∙ v .2, c .before .before .before .before .before .eliminate-marked .kept .1 .1 .1 .1 .1 .1 .1 .0 ∙ v .3, set-on (s .pre) (c .before .before .before .before .before .before .before .before .before .loop-test .taken) (s .args .set .now) (v .4) (v .1) (c .before .before .before .before .before .eliminate-marked .ensures))
-
-same-length : tie.Need-same-length Inv-loop μ-loop
-same-length c = let s = c .before .before .before .before .before .before .before .before in c .before .loop .inv .2 ∙ sym (s .pre .places)
-
-same-length-2 : tie.Need-same-length-2 Inv-loop μ-loop
-same-length-2 c = let s = c .before .before .before .before .before .before .before .before in c .before .loop .inv .3 ∙ sym (s .pre .bests)
+loop-again c =
+    let e : tie.After-eliminate-marked Inv-loop μ-loop = search in
+    let m : tie.After-mark-in Inv-loop μ-loop = search in
+    let E = e .eliminate-marked in
+    let t = turn e in
+    let s = start (t .before) in
+    let v = t .before .loop .inv in (
+      omega (arith, t .loop-test .taken),
+      start-next (s .args .list .now) (t .before .loop .k) (v .1) (c .next-start .ensures),
+      omega (arith, E .kept, v .2),
+      omega (arith, E .kept, v .3),
+      set-on (s .pre) (t .loop-test .taken) (s .args .set .now) (v .4) (v .1) (rw (m .mark-in .ensures) at (E .ensures)),
+    )
 
 returns : tie.Need-returns Inv-loop μ-loop
-returns c = let e : c .before .loop .k ≡ length (c .before .before .before .before .before .before .before .before .args .set .now) = omega (arith, c .before .loop .inv .0, c .loop-test .left) in rw (← e) (c .before .loop .inv .4)
+returns c =
+    let l = c .before in
+    let e : l .loop .k ≡ length (start l .args .set .now) = omega (arith, l .loop .inv .0, c .loop-test .left) in
+    rw (← e) (l .loop .inv .4)
 
 pub eliminate-set-spec : {M : Type 1} → statement M
 eliminate-set-spec =
@@ -53,12 +69,12 @@ eliminate-set-spec =
     Inv-loop
     μ-loop
     loop-holds
-    shared-slice-read-eliminate-marked
+    (λ c κs. search needs)
     eliminate-marked-requires
     next-start-requires
-    add-k
-    loop-less
+    (λ c. let t : tie.In-loop Inv-loop μ-loop = search turn in omega (arith, t .loop-test .taken))
+    (λ c. let t : tie.In-loop Inv-loop μ-loop = search turn in omega (arith, t .loop-test .taken))
     loop-again
-    same-length
-    same-length-2
+    (λ c. c .before .loop .inv .2 ∙ sym (start (c .before) .pre .places))
+    (λ c. c .before .loop .inv .3 ∙ sym (start (c .before) .pre .bests))
     returns)

@@ -1,12 +1,13 @@
--- `has_set` meets its contract. The loop's invariant: `at` is where rotation number k stands, and for those before it test and
--- mark agree. `front` is what the test reads, `test` that it is the one of the contract. Assumes nothing.
+-- `has_set` meets its contract. The loop's invariant: `at` is where rotation number k stands, and for those before it
+-- test and mark agree. Assumes nothing.
 use Prim.Native.Nat.{ℕ, _-_, _≤_, _<_}
-use mathlib.Core.Path.{_≡_, refl, sym, _∙_, ap}
+use mathlib.Core.Path.{_≡_, refl, sym, _∙_, subst⁻¹}
 use native.Mathlib.Omega.{arith}
 use lib.ListN.{length}
 use borrow.Author.Tests.{not-true, not-false}
 use Rattle.laws.specs.Values.{vec}
-use Rattle.precedence.specs.Laws.ListRead.{Front, startIn, pastIn, readable-front, start-next, start-room}
+use Rattle.precedence.specs.ListRead.{startIn, pastIn}
+use Rattle.precedence.specs.Laws.ListRead.{Front, readable-front, start-next, start-room}
 use Rattle.closed_subsets.specs.Laws.PlaceTests.{mark-agrees, mark-differs, agree-no, agree-yes, below-next}
 use Rattle.rotations.specs.Sets.{member}
 use borrow.Author.Needs.{needs}
@@ -19,41 +20,39 @@ Inv-loop n ranks list set places at₀ k₀ at k = (k ≤ length set) × (at ≡
 abbrev μ-loop : tie.MeasureT-loop
 μ-loop n ranks list set places at₀ k₀ at k = length set - k
 
-front : (c : tie.In-loop Inv-loop μ-loop) → Front (c .before .before .before .before .before .before .args .n) (c .before .before .before .before .before .before .args .list .now) (c .before .loop .at)
-front c = let s = c .before .before .before .before .before .before in rw (c .before .loop .inv .1) (readable-front (s .pre .0) (c .loop-test .taken))
-
-test : (c : tie.After-past Inv-loop μ-loop) → c .past .result ≡ pastIn (c .before .before .before .before .before .before .before .args .n) (c .before .before .before .before .before .before .before .args .ranks .now) (c .before .before .before .before .before .before .before .args .list .now) (startIn (c .before .before .before .before .before .before .before .args .list .now) (c .before .before .loop .k)) (vec (c .before .before .before .before .before .before .before .args .places .now))
-test c = c .past .ensures ∙ ap (λ (at : ℕ). pastIn (c .before .before .before .before .before .before .before .args .n) (c .before .before .before .before .before .before .before .args .ranks .now) (c .before .before .before .before .before .before .before .args .list .now) at (vec (c .before .before .before .before .before .before .before .args .places .now))) (c .before .before .loop .inv .1)
-
-loop-holds : tie.Need-loop-holds Inv-loop μ-loop
-loop-holds c = (omega arith, refl, λ j h. absurd (omega arith))
+abbrev start : tie.At-loop Inv-loop μ-loop → tie.Start Inv-loop μ-loop
+start c = search
 
 past-requires : tie.Need-past-requires Inv-loop μ-loop
-past-requires c κs = let s = c .before .before .before .before .before .before in let f = front c in (f .room, (f .man, f .woman, s .pre .1 .0, s .pre .1 .1))
-
-shared-slice-read-agrees : tie.Need-shared-slice-read-agrees Inv-loop μ-loop
-shared-slice-read-agrees c = search needs
-
-agrees-requires : tie.Need-agrees-requires Inv-loop μ-loop
-agrees-requires c κs = search needs
+past-requires c κs =
+    let s = start (c .before) in
+    let f = subst⁻¹ (Front (s .args .n) (s .args .list .now)) (c .before .loop .inv .1) (readable-front (s .pre .0) (c .loop-test .taken)) in
+    (f .room, (f .man, f .woman, s .pre .1 .0, s .pre .1 .1))
 
 returns : tie.Need-returns Inv-loop μ-loop
-returns c = agree-no (c .before .before .before .before .loop-test .taken) (λ e. mark-differs (c .before .before .before .past .result) (member (c .before .before .before .before .before .before .before .before .before .before .args .set .now) (c .before .before .before .before .before .loop .k)) (sym (c .before .agrees .ensures) ∙ not-true _ (c .if1 .taken)) (test (c .before .before .before) ∙ e))
+returns c =
+    let p : tie.After-past Inv-loop μ-loop = search in
+    let t : tie.In-loop Inv-loop μ-loop = search in
+    let m : tie.After-mark-in Inv-loop μ-loop = search in
+    agree-no (t .loop-test .taken)
+    (λ e. mark-differs (p .past .result) _ (sym (rw (m .mark-in .ensures) at (c .before .agrees .ensures)) ∙ not-true _ (c .if1 .taken)) (rw (t .before .loop .inv .1) at (p .past .ensures) ∙ e))
 
 next-start-requires : tie.Need-next-start-requires Inv-loop μ-loop
-next-start-requires c κs = let s = c .before .before .before .before .before .before .before .before .before .before in start-room (s .pre .0) (c .before .before .before .before .loop-test .taken) (c .before .before .before .before .before .loop .inv .1)
-
-add-k : tie.Need-add-k Inv-loop μ-loop
-add-k c = omega (arith, c .before .before .before .before .before .loop-test .taken)
-
-loop-less : tie.Need-loop-less Inv-loop μ-loop
-loop-less c = omega (arith, c .before .before .before .before .before .loop-test .taken)
+next-start-requires c κs =
+    let t : tie.In-loop Inv-loop μ-loop = search in
+    start-room (start (t .before) .pre .0) (t .loop-test .taken) (t .before .loop .inv .1)
 
 loop-again : tie.Need-loop-again Inv-loop μ-loop
-loop-again c = let s = c .before .before .before .before .before .before .before .before .before .before .before in (omega (arith, c .before .before .before .before .before .loop-test .taken), start-next (s .args .list .now) (c .before .before .before .before .before .before .loop .k) (c .before .before .before .before .before .before .loop .inv .1) (c .next-start .ensures), below-next (c .before .before .before .before .before .before .loop .inv .2) (sym (test (c .before .before .before .before)) ∙ mark-agrees (c .before .before .before .before .past .result) (member (c .before .before .before .before .before .before .before .before .before .before .before .args .set .now) (c .before .before .before .before .before .before .loop .k)) (sym (c .before .before .agrees .ensures) ∙ not-false _ (c .before .if1 .left))))
-
-returns-2 : tie.Need-returns-2 Inv-loop μ-loop
-returns-2 c = agree-yes (c .loop-test .left) (c .before .loop .inv .2)
+loop-again c =
+    let p : tie.After-past Inv-loop μ-loop = search in
+    let t : tie.In-loop Inv-loop μ-loop = search in
+    let m : tie.After-mark-in Inv-loop μ-loop = search in
+    let l = t .before in
+    let v = l .loop .inv in (
+      omega (arith, t .loop-test .taken),
+      start-next (start l .args .list .now) (l .loop .k) (v .1) (c .next-start .ensures),
+      below-next (v .2) (sym (rw (v .1) at (p .past .ensures)) ∙ mark-agrees (p .past .result) _ (sym (rw (m .mark-in .ensures) at (c .before .before .agrees .ensures)) ∙ not-false _ (c .before .if1 .left))),
+    )
 
 pub has-set-spec : {M : Type 1} → statement M
 has-set-spec =
@@ -61,13 +60,13 @@ has-set-spec =
     (tie.spec
     Inv-loop
     μ-loop
-    loop-holds
+    (λ c. (omega arith, refl, λ j h. absurd (omega arith)))
     past-requires
-    shared-slice-read-agrees
-    agrees-requires
+    (λ c κs. search needs)
+    (λ c κs. search needs)
     returns
     next-start-requires
-    add-k
-    loop-less
+    (λ c. let t : tie.In-loop Inv-loop μ-loop = search in omega (arith, t .loop-test .taken))
+    (λ c. let t : tie.In-loop Inv-loop μ-loop = search in omega (arith, t .loop-test .taken))
     loop-again
-    returns-2)
+    (λ c. agree-yes (c .loop-test .left) (c .before .loop .inv .2)))

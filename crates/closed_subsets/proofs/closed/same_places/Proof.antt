@@ -3,7 +3,7 @@ use Prim.Native.Nat.{ℕ, _-_, _≤_, _<_}
 use mathlib.Core.Path.{_≡_}
 use native.Mathlib.Omega.{arith}
 use Rattle.laws.specs.Values.{vec}
-use Rattle.closed_subsets.specs.Laws.PlaceTests.{same-no, same-yes, below-next}
+use Rattle.closed_subsets.specs.Laws.PlaceTests.{agree-no, agree-yes, below-next}
 use borrow.Author.Needs.{needs}
 use Rattle.closed_subsets.proofs.closed.same_places.Statement.{statement}
 use Rattle.closed_subsets.proofs.closed.same_places.Tie as tie
@@ -14,35 +14,10 @@ Inv-loop n p q i₀ i = (i ≤ n) × ((j : ℕ) → j < i → vec p j ≡ vec q 
 abbrev μ-loop : tie.MeasureT-loop
 μ-loop n p q i₀ i = n - i
 
-loop-holds : tie.Need-loop-holds Inv-loop μ-loop
-loop-holds c = (omega arith, λ j h. absurd (omega arith))
-
-mul-if1 : tie.Need-mul-if1 Inv-loop μ-loop
-mul-if1 c = search needs
-
-shared-slice-read-if1 : tie.Need-shared-slice-read-if1 Inv-loop μ-loop
-shared-slice-read-if1 c = search needs
-
-mul-if1-2 : tie.Need-mul-if1-2 Inv-loop μ-loop
-mul-if1-2 c = search needs
-
-shared-slice-read-if1-2 : tie.Need-shared-slice-read-if1-2 Inv-loop μ-loop
-shared-slice-read-if1-2 c = search needs
-
-returns : tie.Need-returns Inv-loop μ-loop
-returns c = same-no (c .before .before .before .loop-test .taken) (c .if1 .taken)
-
-add-i : tie.Need-add-i Inv-loop μ-loop
-add-i c = omega (arith, c .before .before .before .loop-test .taken)
-
-loop-less : tie.Need-loop-less Inv-loop μ-loop
-loop-less c = omega (arith, c .before .before .before .loop-test .taken)
-
 loop-again : tie.Need-loop-again Inv-loop μ-loop
-loop-again c = (omega (arith, c .before .before .before .loop-test .taken), below-next (c .before .before .before .before .loop .inv .1) (c .if1 .left))
-
-returns-2 : tie.Need-returns-2 Inv-loop μ-loop
-returns-2 c = same-yes (c .loop-test .left) (c .before .loop .inv .1)
+loop-again c =
+    let t : tie.In-loop Inv-loop μ-loop = search in
+    (omega (arith, t .loop-test .taken), below-next (t .before .loop .inv .1) (c .if1 .left))
 
 pub same-places-spec : {M : Type 1} → statement M
 same-places-spec =
@@ -50,13 +25,13 @@ same-places-spec =
     (tie.spec
     Inv-loop
     μ-loop
-    loop-holds
-    mul-if1
-    shared-slice-read-if1
-    mul-if1-2
-    shared-slice-read-if1-2
-    returns
-    add-i
-    loop-less
+    (λ c. (omega arith, λ j h. absurd (omega arith)))
+    (λ c. search needs)
+    (λ c. search needs)
+    (λ c. search needs)
+    (λ c. search needs)
+    (λ c. let t : tie.In-loop Inv-loop μ-loop = search in agree-no (t .loop-test .taken) (c .if1 .taken))
+    (λ c. let t : tie.In-loop Inv-loop μ-loop = search in omega (arith, t .loop-test .taken))
+    (λ c. let t : tie.In-loop Inv-loop μ-loop = search in omega (arith, t .loop-test .taken))
     loop-again
-    returns-2)
+    (λ c. agree-yes (c .loop-test .left) (c .before .loop .inv .1)))

@@ -1,5 +1,5 @@
--- `settle_all` meets its contract. The loop's invariant: the proposers below i are settled. `start` is the function's entry and
--- `answer` what the test says at proposer i. Assumes nothing.
+-- `settle_all` meets its contract. The loop's invariant: the proposers below i are settled. `start` is the function's
+-- entry and `answer` what the test says at proposer i. Assumes nothing.
 use Prim.Native.Nat.{_-_, _≤_}
 use mathlib.Core.Path.{_≡_, _∙_, sym}
 use mathlib.Core.Logic.{⊎-elim}
@@ -7,42 +7,46 @@ use native.Mathlib.Omega.{arith}
 use denote.Ref.{now}
 use Rattle.laws.specs.Table.{cell}
 use Rattle.laws.specs.Values.{vec}
-use Rattle.proposals.specs.Lists.{marketOf, Sized}
-use Rattle.proposals.specs.Answers.{losing-is, BeatenIs}
-use Rattle.deferred.specs.AnyStart.{SettledBelow, below-skip, below-ready, below-chain}
+use Rattle.tables.specs.Lists.{marketOf, Sized}
+use Rattle.proposals.specs.Laws.Tests.{outranked-is, RejectedIs}
+use Rattle.deferred.specs.Settled.{SettledBelow}
+use Rattle.deferred.specs.Laws.AnyStart.{below-skip, below-ready, below-chain}
 use Rattle.deferred.proofs.settling.settle_all.Statement.{statement}
 use Rattle.deferred.proofs.settling.settle_all.Tie as tie
 
 abbrev Inv-loop : tie.InvT-loop
-Inv-loop a b plens plists rlens rlists ranks p₀ t₀ i₀ p t i = (i ≤ a) × Sized a b p t × SettledBelow (marketOf a b plens plists rlens rlists) (vec p₀) i (vec p) (vec t)
+Inv-loop a b plists rlists ranks p₀ t₀ i₀ p t i = (i ≤ a) × Sized a b p t × SettledBelow (marketOf a b plists rlists) (vec p₀) i (vec p) (vec t)
 
 abbrev μ-loop : tie.MeasureT-loop
-μ-loop a b plens plists rlens rlists ranks p₀ t₀ i₀ p t i = a - i
+μ-loop a b plists rlists ranks p₀ t₀ i₀ p t i = a - i
 
 abbrev start : tie.At-loop Inv-loop μ-loop → tie.Start Inv-loop μ-loop
-start c = c .before .before .before .before .before .before .before .before
+start c = search
 
 answer :
-    (c : tie.After-beaten Inv-loop μ-loop) →
-    BeatenIs (marketOf (start (c .before .before .before .before) .args .a) (start (c .before .before .before .before) .args .b) (now (start (c .before .before .before .before) .args .plens)) (now (start (c .before .before .before .before) .args .plists)) (now (start (c .before .before .before .before) .args .rlens)) (now (start (c .before .before .before .before) .args .rlists))) (vec (c .before .before .before .before .loop .p)) (vec (c .before .before .before .before .loop .t)) (c .before .before .before .before .loop .i) (c .beaten .result)
+    (c : tie.After-rejected Inv-loop μ-loop) →
+    RejectedIs (marketOf (start (c .before .before .before .before) .args .a) (start (c .before .before .before .before) .args .b) (now (start (c .before .before .before .before) .args .plists)) (now (start (c .before .before .before .before) .args .rlists))) (vec (c .before .before .before .before .loop .p)) (vec (c .before .before .before .before .loop .t)) (c .before .before .before .before .loop .i) (c .rejected .result)
 answer c =
     let s = start (c .before .before .before .before) in
     let u = c .before .before .before .loop-test .taken in
-    rw (c .beaten .ensures)
-    (losing-is (s .pre .0 .proper) (vec (c .before .before .before .before .loop .p)) u (cell (now (s .args .ranks)) (s .args .a)) (vec (c .before .before .before .before .loop .t))
+    rw (c .rejected .ensures)
+    (outranked-is (s .pre .0 .proper) (vec (c .before .before .before .before .loop .p)) u (cell (now (s .args .ranks)) (s .args .a)) (vec (c .before .before .before .before .loop .t))
     (λ w v. s .pre .0 .agrees .rank v u))
 
 loop-holds : tie.Need-loop-holds Inv-loop μ-loop
-loop-holds c = let s = c .before .before .before .before .before .before .before in (omega arith, s .pre .1 .0, s .pre .1 .1)
+loop-holds c = let s : tie.Start Inv-loop μ-loop = search in (omega arith, s .pre .1 .0, s .pre .1 .1)
 
-beaten-requires : tie.Need-beaten-requires Inv-loop μ-loop
-beaten-requires c κs = let s = start (c .before .before .before) in (s .pre .0 .proposers, (s .pre .0 .ranked, (c .before .before .before .loop .inv .1, c .before .before .loop-test .taken)))
+rejected-requires : tie.Need-rejected-requires Inv-loop μ-loop
+rejected-requires c κs =
+    let at-loop : tie.At-loop Inv-loop μ-loop = search in
+    let s = start search in (s .pre .0 .proposers, (s .pre .0 .ranked, (at-loop .loop .inv .1, c .before .before .loop-test .taken)))
 
 chain-requires : tie.Need-chain-requires Inv-loop μ-loop
 chain-requires c κs =
-    let s = start (c .before .before .before .before .before .before .before) in
-    let m = c .before .before .before .before .before .before .before .loop in
-    (s .pre .0, (m .inv .1, below-ready (s .pre .0 .proper) (m .inv .2) (rw (c .before .before .if1 .taken) at (answer (c .before .before .before)))))
+    let at-loop : tie.At-loop Inv-loop μ-loop = search in
+    let s = start search in
+    let m = at-loop .loop in
+    (s .pre .0, (m .inv .1, below-ready (s .pre .0 .proper) (m .inv .2) (rw (c .before .before .if1 .taken) at (answer search))))
 
 add-i : tie.Need-add-i Inv-loop μ-loop
 add-i c = omega arith
@@ -52,14 +56,15 @@ loop-less c = omega arith
 
 loop-again : tie.Need-loop-again Inv-loop μ-loop
 loop-again c =
-    let s = start (c .before .before .before .before .before) in
-    let m = c .before .before .before .before .before .loop in
+    let at-loop : tie.At-loop Inv-loop μ-loop = search in
+    let s = start search in
+    let m = at-loop .loop in
     ⊎-elim
     (λ w. rw (w .8, w .9) (
       omega arith,
       record {
-        places = w .3 .kept .1 .1 .1 .1 .1 .1 .1 .0 ∙ m .inv .1 .places;
-        bests = w .3 .kept .1 .1 .1 .1 .1 .1 .1 .1 .0 ∙ m .inv .1 .bests;
+        places = w .3 .kept .1 .1 .1 .1 .1 .0 ∙ m .inv .1 .places;
+        bests = w .3 .kept .1 .1 .1 .1 .1 .1 .0 ∙ m .inv .1 .bests;
       },
       below-chain (s .pre .0 .proper) (m .inv .2) (rw (w .0 .taken) at (answer (c .before))) (w .3 .ensures),
     ))
@@ -83,7 +88,7 @@ settle-all-spec =
     Inv-loop
     μ-loop
     loop-holds
-    beaten-requires
+    rejected-requires
     chain-requires
     add-i
     loop-less

@@ -32,12 +32,13 @@ same-length c = search needs
 
 returns : tie.Need-returns
 returns c =
-    let s = c .before .before .before .before .before .before in
-    let r = c .before .before .before .entry .result in
+    let after-entry : tie.After-entry = search in
+    let s : tie.Start = search in
+    let r = after-entry .entry .result in
     let t = now (s .args .t) in
     let w = s .args .w in
     record {
-      better = omega (arith, getD-set-same t w r 0 (s .pre .1), c .before .wide .ensures .0, c .before .before .before .entry .ensures .0);
+      better = omega (arith, getD-set-same t w r 0 (s .pre .1), c .before .wide .ensures .0, after-entry .entry .ensures .0);
       others = λ v n. getD-set-other t w v r 0 n;
     }
 

@@ -1,113 +1,128 @@
--- `matching_to_set` meets its contract: rule 14 after the matching's, and then the set of the matching. `judged` is what
--- the check answers for the book, `passed` says that nothing is refused before rule 14, `count` that the code's number of rotations is the book's. Assumes nothing.
+-- `matching_to_set` meets its contract: rule 14 after the matching's, and then the set of the matching. `judged` is
+-- what the check answers for the book, `passed` says that nothing is refused before rule 14, `count` that the code's
+-- number of rotations is the book's. Assumes nothing.
 use Prim.Native.Nat.{ℕ}
 use mathlib.Core.Path.{_≡_, sym, _∙_, ap}
 use native.Mathlib.Omega.{arith}
 use lib.ListN.{length, length-replicate}
 use borrow.Author.Needs.{needs}
+use Rattle.format.specs.Outcome.{after}
+use Rattle.format.specs.Laws.Outcome.{room-refused, room-short, room-fits}
+use Rattle.format.specs.Record.{Record, recordOf}
 use Rattle.format.specs.Verdict.{Verdict, fine, verdictOf}
 use Rattle.matchings.specs.Matching.{checkMatching}
-use Rattle.stability.specs.Judge.{JudgedIs}
-use Rattle.rotations.specs.RotationList.{rotationCount, counting}
-use Rattle.rotation_numbering.specs.Laws.Numbers.{listRoom}
-use Rattle.rotation_list.specs.Laws.Replies.{read-usable, room-refused, room-short, room-fits, reply-refused, reply-fine}
+use Rattle.stability.specs.Laws.Judged.{BookJudged, book-judged}
+use Rattle.rotations.specs.RotationList.{rotationCount}
+use Rattle.rotation_numbering.specs.Numbering.{listRoom}
+use Rattle.instances.specs.Laws.Read.{read-usable}
+use Rattle.rotation_list.specs.Laws.Replies.{reply-refused, reply-fine}
 use Rattle.precedence.specs.Laws.BookOrder.{book-readable}
 use Rattle.matching_set.specs.Laws.MatchingSets.{judged-read, judged-room, judged-count, judged-set}
 use Rattle.rotations.specs.Sets.{matchingSet}
 use Rattle.matching_set.proofs.past_rotations.matching_to_set.Statement.{statement}
 use Rattle.matching_set.proofs.past_rotations.matching_to_set.Tie as tie
 
-judged : (c : tie.After-judge) → JudgedIs (c .before .before .before .before .before .before .before .before .before .before .before .before .before .before .before .before .before .before .args .book .now) (c .before .before .before .before .before .before .before .before .before .before .before .before .before .before .before .before .before .before .args .matching .now) (c .judge .result)
-judged c = c .judge .ensures _ (c .before .before .before .before .before .before .before .before .before .before .before .before .before .before .load .ensures)
+-- from each place to the one before it that the proof names
+abbrev start : tie.After-load → tie.Start
+start c = search
 
-passed : (c : tie.After-enum-told) → checkMatching (c .before .before .before .before .before .before .before .before .before .before .before .before .before .before .before .before .before .before .before .before .args .book .now) (c .before .before .before .before .before .before .before .before .before .before .before .before .before .before .before .before .before .before .before .before .args .matching .now) ≡ fine
-passed c = sym (judged (c .before .before) .checked) ∙ ap verdictOf (c .enum-told .given .1)
+abbrev loaded : tie.After-judge → tie.After-load
+loaded c = search
 
-count : (c : tie.After-number-all) → c .number-all .result .count ≡ rotationCount (c .before .before .before .before .before .before .before .before .before .before .before .before .before .before .before .before .before .before .before .before .before .before .before .before .before .before .before .before .before .before .before .before .before .before .before .args .book .now)
-count c = judged-count (c .before .before .before .before .before .before .before .before .before .before .before .before .before .before .before .before .before .before .before .before .before .before .before .before .before .before .before .before .before .before .before .load .ensures) (judged (c .before .before .before .before .before .before .before .before .before .before .before .before .before .before .before .before .before)) (passed (c .before .before .before .before .before .before .before .before .before .before .before .before .before .before .before)) (c .number-all .ensures)
+abbrev stable : tie.After-enum-told → tie.After-judge
+stable c = search
 
-load-requires : tie.Need-load-requires
-load-requires c κs = search needs
+abbrev told : tie.After-number-all → tie.After-enum-told
+told c = search
 
-judge-requires : tie.Need-judge-requires
-judge-requires c κs = record { book = _; recorded = c .before .before .before .before .before .before .before .before .before .before .before .before .before .load .ensures }
+-- the record that was made
+abbrev made : tie.After-load → Record
+made c =
+    let l = c .load .last .1 in
+    recordOf (c .load .result .n) (l .0) (l .1 .0) (l .1 .1 .0) (l .1 .1 .1 .0)
 
-enum-told : tie.Need-enum-told
-enum-told c = search needs
+judged :
+    (c : tie.After-judge) →
+    let l = loaded c in
+    let a = start l .args in
+    BookJudged (a .book .now) (a .matching .now) (made l) (c .judge .result)
+judged c = book-judged (loaded c .load .ensures) (c .judge .ensures)
 
-enum-told-2 : tie.Need-enum-told-2
-enum-told-2 c = search needs
+passed : (c : tie.After-enum-told) → let a = start (loaded (stable c)) .args in checkMatching (a .book .now) (a .matching .now) ≡ fine
+passed c = sym (judged (stable c) .judged .checked) ∙ ap verdictOf (c .enum-told .given .1)
 
-reply-requires : tie.Need-reply-requires
-reply-requires c κs = search needs
+count : (c : tie.After-number-all) → c .number-all .result .count ≡ rotationCount (start (loaded (stable (told c))) .args .book .now)
+count c = judged-count (judged (stable (told c))) (passed (told c)) (c .number-all .ensures)
 
 returns : tie.Need-returns
 returns c =
-    let b = c .before .before .before .before .before .before .before .before .before .before .before .before .before .before .before .before .before .before .before .before .before .args .book .now in
-    let m = c .before .before .before .before .before .before .before .before .before .before .before .before .before .before .before .before .before .before .before .before .before .args .matching .now in
-    let o = c .before .before .before .before .before .before .before .before .before .before .before .before .before .before .before .before .before .before .before .before .before .args .out .now in
+    let d : tie.After-judge = search in
+    let s = start (loaded d) .args in
+    let b = s .book .now in
+    let m = s .matching .now in
+    let o = s .out .now in
     let e = ap verdictOf (c .before .enum-told2 .given .1) in
-    reply-refused (room-refused (checkMatching b m) (rotationCount b) (length o) (sym (judged (c .before .before .before) .checked) ∙ e)) (rotationCount b) (rotationCount b) (matchingSet b m) o (c .reply .ensures ∙ ap (λ (v : Verdict). counting v 0) e)
-
-slice-aggregate-number-all : tie.Need-slice-aggregate-number-all
-slice-aggregate-number-all c = search needs
+    reply-refused (room-refused (checkMatching b m) (rotationCount b) (length o) (sym (judged d .judged .checked) ∙ e)) (rotationCount b) (rotationCount b) (matchingSet b m) o (c .count-after .ensures ∙ ap (λ (v : Verdict). after v 0) e)
 
 number-all-requires : tie.Need-number-all-requires
-number-all-requires c κs = (read-usable (judged-read (c .before .before .before .before .before .before .before .before .before .before .before .before .before .before .before .before .before .before .before .before .before .before .before .before .before .before .before .before .before .before .load .ensures) (judged (c .before .before .before .before .before .before .before .before .before .before .before .before .before .before .before .before)) (passed (c .before .before .before .before .before .before .before .before .before .before .before .before .before .before))), length-replicate {A = ℕ} listRoom 0)
-
-refuse-requires : tie.Need-refuse-requires
-refuse-requires c κs = search needs
-
-reply-requires-2 : tie.Need-reply-requires-2
-reply-requires-2 c κs = search needs
+number-all-requires c κs =
+    let t : tie.After-enum-told = search in
+    (read-usable (judged-read (judged (stable t)) (passed t)), length-replicate {A = ℕ} listRoom 0)
 
 returns-2 : tie.Need-returns-2
 returns-2 c =
-    let b = c .before .before .before .before .before .before .before .before .before .before .before .before .before .before .before .before .before .before .before .before .before .before .before .before .before .before .before .before .before .before .before .before .before .before .before .before .before .before .before .args .book .now in
-    let m = c .before .before .before .before .before .before .before .before .before .before .before .before .before .before .before .before .before .before .before .before .before .before .before .before .before .before .before .before .before .before .before .before .before .before .before .before .before .before .before .args .matching .now in
-    let o = c .before .before .before .before .before .before .before .before .before .before .before .before .before .before .before .before .before .before .before .before .before .before .before .before .before .before .before .before .before .before .before .before .before .before .before .before .before .before .before .args .out .now in
-    reply-refused (room-short (checkMatching b m) (rotationCount b) (length o) (passed (c .before .before .before .before .before .before .before .before .before .before .before .before .before .before .before .before .before .before .before)) (omega (arith, count (c .before .before .before .before), c .before .before .if1 .taken))) (rotationCount b) (rotationCount b) (matchingSet b m) o (c .reply2 .ensures ∙ ap (λ (v : Verdict). counting v 0) (c .before .refuse .ensures))
-
-slice-aggregate-write-set : tie.Need-slice-aggregate-write-set
-slice-aggregate-write-set c = sym (c .before .before .before .before .before .before .number-all .ensures .long)
+    let n : tie.After-number-all = search in
+    let s = start (loaded (stable (told n))) .args in
+    let b = s .book .now in
+    let m = s .matching .now in
+    let o = s .out .now in
+    reply-refused (room-short (checkMatching b m) (rotationCount b) (length o) (passed (told n)) (omega (arith, count n, c .before .before .if1 .taken))) (rotationCount b) (rotationCount b) (matchingSet b m) o (c .count-after2 .ensures ∙ ap (λ (v : Verdict). after v 0) (c .before .refuse .ensures))
 
 write-set-requires : tie.Need-write-set-requires
 write-set-requires c κs =
-    let R = c .before .before .before .before .before .before .before .before .before .before .before .before .before .before .before .before .before .before .before .before .before .before .before .before .before .before .before .before .before .before .before .before .before .before .before .before .before .before .before .before .before .load .ensures in
-    let J = judged (c .before .before .before .before .before .before .before .before .before .before .before .before .before .before .before .before .before .before .before .before .before .before .before .before .before .before .before) in
-    let f = passed (c .before .before .before .before .before .before .before .before .before .before .before .before .before .before .before .before .before .before .before .before .before .before .before .before .before) in
-    let h = judged-room R J f in
-    (rw (count (c .before .before .before .before .before .before .before .before .before .before)) (book-readable (judged-read R J f) (c .before .before .before .before .before .before .before .before .before .before .number-all .ensures)), (h .0, h .1, omega (arith, c .before .before .before .before .before .before .before .before .if1 .left)))
-
-same-length : tie.Need-same-length
-same-length c = search needs
+    let e : tie.Else1 = search in
+    let n : tie.After-number-all = search in
+    let J = judged (stable (told n)) in
+    let h = judged-room J (passed (told n)) in
+    (rw (count n) (book-readable (judged-read J (passed (told n))) (n .number-all .ensures)), (h .0, h .1, omega (arith, e .if1 .left)))
 
 returns-3 : tie.Need-returns-3
 returns-3 c =
-    let b = c .before .before .before .before .before .before .before .before .before .before .before .before .before .before .before .before .before .before .before .before .before .before .before .before .before .before .before .before .before .before .before .before .before .before .before .before .before .before .before .before .before .before .before .before .before .before .before .before .args .book .now in
-    let m = c .before .before .before .before .before .before .before .before .before .before .before .before .before .before .before .before .before .before .before .before .before .before .before .before .before .before .before .before .before .before .before .before .before .before .before .before .before .before .before .before .before .before .before .before .before .before .before .before .args .matching .now in
-    let o = c .before .before .before .before .before .before .before .before .before .before .before .before .before .before .before .before .before .before .before .before .before .before .before .before .before .before .before .before .before .before .before .before .before .before .before .before .before .before .before .before .before .before .before .before .before .before .before .before .args .out .now in
-    let R = c .before .before .before .before .before .before .before .before .before .before .before .before .before .before .before .before .before .before .before .before .before .before .before .before .before .before .before .before .before .before .before .before .before .before .before .before .before .before .before .before .before .before .before .before .load .ensures in
-    let J = judged (c .before .before .before .before .before .before .before .before .before .before .before .before .before .before .before .before .before .before .before .before .before .before .before .before .before .before .before .before .before .before) in
-    let f = passed (c .before .before .before .before .before .before .before .before .before .before .before .before .before .before .before .before .before .before .before .before .before .before .before .before .before .before .before .before) in
-    reply-fine (room-fits (checkMatching b m) (rotationCount b) (length o) f (omega (arith, count (c .before .before .before .before .before .before .before .before .before .before .before .before .before), c .before .before .before .before .before .before .before .before .before .before .before .if1 .left))) (count (c .before .before .before .before .before .before .before .before .before .before .before .before .before)) (rotationCount b) (matchingSet b m) o _ (judged-set R J f (c .before .before .before .before .before .before .before .before .before .before .before .before .before .number-all .ensures) o _ (c .before .before .write-set .ensures))
+    let w : tie.After-write-set = search in
+    let e : tie.Else1 = search in
+    let n : tie.After-number-all = search in
+    let f = passed (told n) in
+    let s = start (loaded (stable (told n))) .args in
+    let b = s .book .now in
+    let m = s .matching .now in
+    let o = s .out .now in
+    reply-fine (room-fits (checkMatching b m) (rotationCount b) (length o) f (omega (arith, count n, e .if1 .left))) (count n) (rotationCount b) (matchingSet b m) o _ (judged-set (judged (stable (told n))) f (n .number-all .ensures) o _ (w .write-set .ensures))
 
 pub matching-to-set-spec : {M : Type 1} → statement M
 matching-to-set-spec =
     tie.close
     (tie.spec
-    load-requires
-    judge-requires
-    enum-told
-    enum-told-2
-    reply-requires
+    (λ c κs. search needs)
+    (λ c. search needs)
+    (λ c. search needs)
+    (λ c. search needs)
+    (λ c. search needs)
+    (λ c κs. let l : tie.After-load = search in record { book = _; recorded = l .load .ensures })
+    (λ c. search needs)
+    (λ c. search needs)
+    (λ c κs. search needs)
     returns
-    slice-aggregate-number-all
+    (λ c. let t : tie.After-enum-told = search in sym (judged (stable t) .tables .men .lists-long))
+    (λ c. let t : tie.After-enum-told = search in sym (judged (stable t) .tables .men .ranks-long))
+    (λ c. let t : tie.After-enum-told = search in sym (judged (stable t) .tables .women .lists-long))
+    (λ c. let t : tie.After-enum-told = search in sym (judged (stable t) .tables .women .ranks-long))
+    (λ c. search needs)
     number-all-requires
-    refuse-requires
-    reply-requires-2
+    (λ c κs. search needs)
+    (λ c κs. search needs)
     returns-2
-    slice-aggregate-write-set
+    (λ c. let n : tie.After-number-all = search in sym (judged (stable (told n)) .tables .men .ranks-long))
+    (λ c. let n : tie.After-number-all = search in sym (n .number-all .ensures .long))
     write-set-requires
-    same-length
+    (λ c. search needs)
     returns-3)

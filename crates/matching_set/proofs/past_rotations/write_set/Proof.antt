@@ -1,15 +1,16 @@
--- `write_set` meets its contract. The loop's invariant: `at` is where rotation number k stands, and the first k bytes of `out`
--- say of the rotations before it whether the places are past them, the others are what they were. `front` is what the test reads, `written`
--- that the byte is the one of the contract. Assumes nothing.
+-- `write_set` meets its contract. The loop's invariant: `at` is where rotation number k stands, and the first k marks
+-- of `out` say of the rotations before it whether the places are past them, the others are what they were.
+-- Assumes nothing.
 use Prim.Native.Nat.{ℕ, _-_, _≤_}
-use mathlib.Core.Path.{_≡_, refl, _∙_, ap}
+use mathlib.Core.Path.{_≡_, refl, ap, subst⁻¹}
 use mathlib.Core.Bool.{Bool}
 use native.Mathlib.Omega.{arith}
 use Rattle.laws.specs.Choice.{pick}
 use Rattle.laws.specs.FrontStores.{stores-front, stores-values}
 use Rattle.laws.specs.Stores.{Stores, stores-start}
 use Rattle.laws.specs.Values.{vec}
-use Rattle.precedence.specs.Laws.ListRead.{Front, startIn, pastIn, readable-front, start-next, start-room}
+use Rattle.precedence.specs.ListRead.{startIn, pastIn}
+use Rattle.precedence.specs.Laws.ListRead.{Front, readable-front, start-next, start-room}
 use Rattle.matching_set.proofs.past_rotations.write_set.Statement.{statement}
 use Rattle.matching_set.proofs.past_rotations.write_set.Tie as tie
 
@@ -19,47 +20,33 @@ Inv-loop n ranks list places count out₀ at₀ k₀ out at k = (k ≤ count) ×
 abbrev μ-loop : tie.MeasureT-loop
 μ-loop n ranks list places count out₀ at₀ k₀ out at k = count - k
 
-front : (c : tie.In-loop Inv-loop μ-loop) → Front (c .before .before .before .before .before .before .args .n) (c .before .before .before .before .before .before .args .list .now) (c .before .loop .at)
-front c = let s = c .before .before .before .before .before .before in rw (c .before .loop .inv .1) (readable-front (s .pre .0) (c .loop-test .taken))
-
-written : (c : tie.After-bit Inv-loop μ-loop) → c .bit .result ≡ pick (pastIn (c .before .before .before .before .before .before .before .before .args .n) (c .before .before .before .before .before .before .before .before .args .ranks .now) (c .before .before .before .before .before .before .before .before .args .list .now) (startIn (c .before .before .before .before .before .before .before .before .args .list .now) (c .before .before .before .loop .k)) (vec (c .before .before .before .before .before .before .before .before .args .places .now))) 1 0
-written c = let s = c .before .before .before .before .before .before .before .before in
-    c .bit .ensures ∙ ap (λ (t : Bool). pick t 1 0) (c .before .past .ensures ∙ ap (λ (at : ℕ). pastIn (s .args .n) (s .args .ranks .now) (s .args .list .now) at (vec (s .args .places .now))) (c .before .before .before .loop .inv .1))
-
-loop-holds : tie.Need-loop-holds Inv-loop μ-loop
-loop-holds c = (omega arith, refl, stores-start _ _ _ _)
+abbrev start : tie.At-loop Inv-loop μ-loop → tie.Start Inv-loop μ-loop
+start c = search
 
 past-requires : tie.Need-past-requires Inv-loop μ-loop
-past-requires c κs = let s = c .before .before .before .before .before .before in let f = front c in (f .room, (f .man, f .woman, s .pre .1 .0, s .pre .1 .1))
-
-bit-requires : tie.Need-bit-requires Inv-loop μ-loop
-bit-requires c κs = tt
-
-slice-write-out : tie.Need-slice-write-out Inv-loop μ-loop
-slice-write-out c = omega arith
+past-requires c κs =
+    let t : tie.In-loop Inv-loop μ-loop = search in
+    let s = start (t .before) in
+    let f = subst⁻¹ (Front (s .args .n) (s .args .list .now)) (t .before .loop .inv .1) (readable-front (s .pre .0) (t .loop-test .taken)) in
+    (f .room, (f .man, f .woman, s .pre .1 .0, s .pre .1 .1))
 
 next-start-requires : tie.Need-next-start-requires Inv-loop μ-loop
-next-start-requires c κs = let s = c .before .before .before .before .before .before .before .before in start-room (s .pre .0) (c .before .before .loop-test .taken) (c .before .before .before .loop .inv .1)
-
-add-k : tie.Need-add-k Inv-loop μ-loop
-add-k c = omega arith
-
-loop-less : tie.Need-loop-less Inv-loop μ-loop
-loop-less c = omega arith
+next-start-requires c κs =
+    let t : tie.In-loop Inv-loop μ-loop = search in
+    start-room (start (t .before) .pre .0) (t .loop-test .taken) (t .before .loop .inv .1)
 
 loop-again : tie.Need-loop-again Inv-loop μ-loop
 loop-again c =
-    let s = c .before .before .before .before .before .before .before .before .before in (
-      omega (arith, c .before .before .before .loop-test .taken),
-      start-next (s .args .list .now) (c .before .before .before .before .loop .k) (c .before .before .before .before .loop .inv .1) (c .next-start .ensures),
-      stores-front (c .before .before .before .before .loop .inv .2) refl (written (c .before)) (omega (arith, c .before .before .before .loop-test .taken)) (λ j u e. omega arith),
+    let m : tie.After-put-mark Inv-loop μ-loop = search in
+    let p : tie.After-past Inv-loop μ-loop = search in
+    let t : tie.In-loop Inv-loop μ-loop = search in
+    let l = t .before in
+    let v = l .loop .inv in
+    let e = ap {B = ℕ} (λ (b : Bool). pick b 1 0) (rw (v .1) at (p .past .ensures)) in (
+      omega (arith, t .loop-test .taken),
+      start-next (start l .args .list .now) (l .loop .k) (v .1) (c .next-start .ensures),
+      rw (m .put-mark .ensures) (stores-front (v .2) refl e (omega (arith, t .loop-test .taken, v .2 .long, start l .pre .1 .2)) (λ j u q. omega arith)),
     )
-
-same-length : tie.Need-same-length Inv-loop μ-loop
-same-length c = c .before .loop .inv .2 .long
-
-returns : tie.Need-returns Inv-loop μ-loop
-returns c = stores-values (c .before .loop .inv .2) (omega arith) (c .before .before .before .before .before .before .pre .1 .2)
 
 pub write-set-spec : {M : Type 1} → statement M
 write-set-spec =
@@ -67,13 +54,12 @@ write-set-spec =
     (tie.spec
     Inv-loop
     μ-loop
-    loop-holds
+    (λ c. (omega arith, refl, stores-start _ _ _ _))
     past-requires
-    bit-requires
-    slice-write-out
+    (λ c κs. omega arith)
     next-start-requires
-    add-k
-    loop-less
+    (λ c. omega arith)
+    (λ c. omega arith)
     loop-again
-    same-length
-    returns)
+    (λ c. c .before .loop .inv .2 .long)
+    (λ c. stores-values (c .before .loop .inv .2) (omega arith) (start (c .before) .pre .1 .2)))

@@ -1,5 +1,5 @@
--- `count_moved` meets its contract. The loop's invariant: `found` of the entries before i differ. The measure is what is
--- left of n. Assumes nothing.
+-- `count_moved` meets its contract. The loop's invariant: `found` of the entries before i differ. The measure is what
+-- is left of n. Assumes nothing.
 use Prim.Native.Nat.{_≤_, _-_}
 use mathlib.Core.Path.{_≡_, ap}
 use mathlib.Core.Bool.{not}
@@ -21,33 +21,13 @@ abbrev μ-loop : tie.MeasureT-loop
 loop-holds : tie.Need-loop-holds Inv-loop μ-loop
 loop-holds c = (omega arith, counted-start _)
 
-mul-if1 : tie.Need-mul-if1 Inv-loop μ-loop
-mul-if1 c = omega arith
-
-shared-slice-read-if1 : tie.Need-shared-slice-read-if1 Inv-loop μ-loop
-shared-slice-read-if1 c = omega arith
-
-mul-if1-2 : tie.Need-mul-if1-2 Inv-loop μ-loop
-mul-if1-2 c = omega arith
-
-shared-slice-read-if1-2 : tie.Need-shared-slice-read-if1-2 Inv-loop μ-loop
-shared-slice-read-if1-2 c = omega arith
-
-add-found : tie.Need-add-found Inv-loop μ-loop
-add-found c = omega arith
-
-add-i : tie.Need-add-i Inv-loop μ-loop
-add-i c = omega arith
-
-loop-less : tie.Need-loop-less Inv-loop μ-loop
-loop-less c = omega arith
-
 loop-again : tie.Need-loop-again Inv-loop μ-loop
 unfolding moved
 loop-again c =
-    let s = c .before .before .before .before .loop .inv .1 in (
+    let l : tie.At-loop Inv-loop μ-loop = search in
+    let C = l .loop .inv .1 in (
       omega arith,
-      ⊎-elim (λ w. rw (w .1) (counted-hit s (ap not (ne-eqb _ _ (w .0 .taken))))) (λ w. rw (w .1) (counted-miss s (ap not (eq-eqb _ _ (w .0 .left))))) (c .if1 .came),
+      ⊎-elim (λ w. rw (w .1) (counted-hit C (ap not (ne-eqb _ _ (w .0 .taken))))) (λ w. rw (w .1) (counted-miss C (ap not (eq-eqb _ _ (w .0 .left))))) (c .if1 .came),
     )
 
 returns : tie.Need-returns Inv-loop μ-loop
@@ -63,12 +43,12 @@ count-moved-spec =
     Inv-loop
     μ-loop
     loop-holds
-    mul-if1
-    shared-slice-read-if1
-    mul-if1-2
-    shared-slice-read-if1-2
-    add-found
-    add-i
-    loop-less
+    (λ c. omega arith)
+    (λ c. omega arith)
+    (λ c. omega arith)
+    (λ c. omega arith)
+    (λ c. omega arith)
+    (λ c. omega arith)
+    (λ c. omega arith)
     loop-again
     returns)

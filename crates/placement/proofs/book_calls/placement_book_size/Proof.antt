@@ -1,35 +1,38 @@
--- `placement_book_size` meets its contract: the test of the size is rule 3's. Assumes nothing.
+-- `placement_book_size` meets its contract: a refusal, or the size of a number that rule 3 passes. Assumes nothing.
+use mathlib.Core.Path.{sym, _∙_, ap}
+use native.Mathlib.Omega.{arith}
 use borrow.Author.Needs.{needs}
-use borrow.Author.Tests.{lt-ltb, le-ltb}
-use Rattle.format.specs.Format.{largest}
+use Rattle.format.specs.Verdict.{verdictOf}
+use Rattle.format.specs.Laws.Bounds.{size-few}
+use Rattle.replies.specs.Replies.{refused-reply}
 use Rattle.placement.proofs.book_calls.placement_book_size.Statement.{statement}
 use Rattle.placement.proofs.book_calls.placement_book_size.Tie as tie
 
-refuse-requires : tie.Need-refuse-requires
-refuse-requires c κs = search needs
-
-verdict-reply-requires : tie.Need-verdict-reply-requires
-verdict-reply-requires c κs = search needs
-
 returns : tie.Need-returns
-returns c = rw (c .verdict-reply .ensures, c .before .refuse .ensures, lt-ltb largest (c .before .before .before .args .n) (c .before .before .if1 .taken))
+returns c =
+    let k : tie.After-check-size = search in
+    let t : tie.After-enum-told2 = search in
+    rw (c .verdict-reply .ensures, ← k .check-size .ensures) (refused-reply (ap verdictOf (t .enum-told2 .given .1)) _ _ _ _)
 
 size-of-requires : tie.Need-size-of-requires
-size-of-requires c κs = search needs
-
-verdict-reply-requires-2 : tie.Need-verdict-reply-requires-2
-verdict-reply-requires-2 c κs = search needs
+size-of-requires c κs =
+    let k : tie.After-check-size = search in
+    omega (arith, size-few (sym (k .check-size .ensures) ∙ ap verdictOf (c .enum-told .given .1)))
 
 returns-2 : tie.Need-returns-2
-returns-2 c = rw (c .verdict-reply2 .ensures, c .before .size-of .ensures, le-ltb largest (c .before .before .before .args .n) (c .before .before .if1 .left))
+returns-2 c =
+    let k : tie.After-check-size = search in
+    rw (c .verdict-reply2 .ensures, c .before .size-of .ensures, k .check-size .ensures)
 
 pub placement-book-size-spec : {M : Type 1} → statement M
 placement-book-size-spec =
     tie.close
     (tie.spec
-    refuse-requires
-    verdict-reply-requires
+    (λ c κs. search needs)
+    (λ c. search needs)
+    (λ c. search needs)
+    (λ c κs. search needs)
     returns
     size-of-requires
-    verdict-reply-requires-2
+    (λ c κs. search needs)
     returns-2)

@@ -1,53 +1,44 @@
--- `placement_write_book` meets its contract: past the largest n the writer refuses, and the value is not looked at. Assumes nothing.
+-- `placement_write_book` meets its contract: a refusal, or the size of the book that was written. Assumes nothing.
+use mathlib.Core.Path.{sym, _∙_, ap}
+use native.Mathlib.Omega.{arith}
 use borrow.Author.Needs.{needs}
-use lib.ListN.{length}
-use Rattle.format.specs.Format.{size}
-use Prim.Native.Nat.{ℕ}
-use mathlib.Core.Path.{_∙_, ap, ap₂}
-use Rattle.format.specs.Verdict.{Verdict}
-use Rattle.replies.specs.Replies.{crowd-reply, replyFor}
+use Rattle.format.specs.Verdict.{verdictOf}
+use Rattle.format.specs.Writable.{fine-writable}
+use Rattle.replies.specs.Replies.{refused-reply}
 use Rattle.placement.proofs.book_calls.placement_write_book.Statement.{statement}
 use Rattle.placement.proofs.book_calls.placement_write_book.Tie as tie
 
-write-requires : tie.Need-write-requires
-write-requires c κs = search needs
-
-verdict-reply-requires : tie.Need-verdict-reply-requires
-verdict-reply-requires c κs = search needs
-
-same-length : tie.Need-same-length
-same-length c = search needs
-
 returns : tie.Need-returns
 returns c =
-    let a = c .before .before .before .before .before .before .before .before .args in
-    let e = crowd-reply (a .n) (a .lists .now) (length (a .out .now)) 0 (size (a .n)) (c .before .if1 .taken) in
-    let w = c .before .before .before .before .write .ensures in
-    (c .verdict-reply .ensures ∙ (ap (λ (v : Verdict). replyFor v 0 0) (w .0) ∙ e), w .1)
+    let w : tie.After-write = search in
+    let t : tie.After-enum-told2 = search in
+    let v : tie.After-verdict-reply = search in
+    let e = ap verdictOf (t .enum-told2 .given .1) in
+    (rw (v .verdict-reply .ensures, ← w .write .ensures .0) (refused-reply e _ _ _ _), w .write .ensures .1)
 
 size-of-requires : tie.Need-size-of-requires
-size-of-requires c κs = search needs
-
-verdict-reply-requires-2 : tie.Need-verdict-reply-requires-2
-verdict-reply-requires-2 c κs = search needs
-
-same-length-2 : tie.Need-same-length-2
-same-length-2 c = search needs
+size-of-requires c κs =
+    let w : tie.After-write = search in
+    omega (arith, fine-writable _ _ _ .0 (sym (w .write .ensures .0) ∙ ap verdictOf (c .enum-told .given .1)) .counted .few)
 
 returns-2 : tie.Need-returns-2
 returns-2 c =
-    let w = c .before .before .before .before .before .write .ensures in
-    (c .verdict-reply2 .ensures ∙ ap₂ (λ (v : Verdict) (k : ℕ). replyFor v 0 k) (w .0) (c .before .size-of .ensures), w .1)
+    let w : tie.After-write = search in
+    let v : tie.After-verdict-reply2 = search in
+    let s : tie.After-size-of = search in
+    (rw (v .verdict-reply2 .ensures, s .size-of .ensures, w .write .ensures .0), w .write .ensures .1)
 
 pub placement-write-book-spec : {M : Type 1} → statement M
 placement-write-book-spec =
     tie.close
     (tie.spec
-    write-requires
-    verdict-reply-requires
-    same-length
+    (λ c κs. search needs)
+    (λ c. search needs)
+    (λ c. search needs)
+    (λ c κs. search needs)
+    (λ c. search needs)
     returns
     size-of-requires
-    verdict-reply-requires-2
-    same-length-2
+    (λ c κs. search needs)
+    (λ c. search needs)
     returns-2)

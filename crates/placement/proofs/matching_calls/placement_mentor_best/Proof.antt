@@ -7,24 +7,11 @@ use Rattle.replies.specs.Replies.{replyFor}
 use Rattle.placement.proofs.matching_calls.placement_mentor_best.Statement.{statement}
 use Rattle.placement.proofs.matching_calls.placement_mentor_best.Tie as tie
 
-woman-optimal-requires : tie.Need-woman-optimal-requires
-woman-optimal-requires c κs = search needs
-
-people-in-requires : tie.Need-people-in-requires
-people-in-requires c κs = search needs
-
-verdict-reply-requires : tie.Need-verdict-reply-requires
-verdict-reply-requires c κs = search needs
-
-same-length : tie.Need-same-length
-same-length c = search needs
-
 returns : tie.Need-returns
 returns c =
-    let w = c .before .before .before .before .woman-optimal .ensures in
+    let s : tie.After-woman-optimal = search in
+    let w = s .woman-optimal .ensures in
     (c .verdict-reply .ensures ∙ ap₂ (λ (v : Verdict) (k : ℕ). replyFor v 0 k) (w .0) (c .before .people-in .ensures .0), w .1)
 
 pub placement-mentor-best-spec : {M : Type 1} → statement M
-placement-mentor-best-spec =
-    tie.close
-    (tie.spec woman-optimal-requires people-in-requires verdict-reply-requires same-length returns)
+placement-mentor-best-spec = tie.close (tie.spec (λ c κs. search needs) (λ c κs. search needs) (λ c κs. search needs) (λ c. search needs) returns)

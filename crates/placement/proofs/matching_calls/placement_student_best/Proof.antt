@@ -7,24 +7,11 @@ use Rattle.replies.specs.Replies.{replyFor}
 use Rattle.placement.proofs.matching_calls.placement_student_best.Statement.{statement}
 use Rattle.placement.proofs.matching_calls.placement_student_best.Tie as tie
 
-man-optimal-requires : tie.Need-man-optimal-requires
-man-optimal-requires c κs = search needs
-
-people-in-requires : tie.Need-people-in-requires
-people-in-requires c κs = search needs
-
-verdict-reply-requires : tie.Need-verdict-reply-requires
-verdict-reply-requires c κs = search needs
-
-same-length : tie.Need-same-length
-same-length c = search needs
-
 returns : tie.Need-returns
 returns c =
-    let w = c .before .before .before .before .man-optimal .ensures in
+    let s : tie.After-man-optimal = search in
+    let w = s .man-optimal .ensures in
     (c .verdict-reply .ensures ∙ ap₂ (λ (v : Verdict) (k : ℕ). replyFor v 0 k) (w .0) (c .before .people-in .ensures .0), w .1)
 
 pub placement-student-best-spec : {M : Type 1} → statement M
-placement-student-best-spec =
-    tie.close
-    (tie.spec man-optimal-requires people-in-requires verdict-reply-requires same-length returns)
+placement-student-best-spec = tie.close (tie.spec (λ c κs. search needs) (λ c κs. search needs) (λ c κs. search needs) (λ c. search needs) returns)

@@ -7,24 +7,11 @@ use Rattle.replies.specs.Replies.{replyFor}
 use Rattle.placement.proofs.set_calls.placement_set_to_matching.Statement.{statement}
 use Rattle.placement.proofs.set_calls.placement_set_to_matching.Tie as tie
 
-set-to-matching-requires : tie.Need-set-to-matching-requires
-set-to-matching-requires c κs = search needs
-
-people-in-requires : tie.Need-people-in-requires
-people-in-requires c κs = search needs
-
-verdict-reply-requires : tie.Need-verdict-reply-requires
-verdict-reply-requires c κs = search needs
-
-same-length : tie.Need-same-length
-same-length c = search needs
-
 returns : tie.Need-returns
 returns c =
-    let w = c .before .before .before .before .set-to-matching .ensures in
+    let s : tie.After-set-to-matching = search in
+    let w = s .set-to-matching .ensures in
     (c .verdict-reply .ensures ∙ ap₂ (λ (v : Verdict) (k : ℕ). replyFor v 0 k) (w .0) (c .before .people-in .ensures .0), w .1)
 
 pub placement-set-to-matching-spec : {M : Type 1} → statement M
-placement-set-to-matching-spec =
-    tie.close
-    (tie.spec set-to-matching-requires people-in-requires verdict-reply-requires same-length returns)
+placement-set-to-matching-spec = tie.close (tie.spec (λ c κs. search needs) (λ c κs. search needs) (λ c κs. search needs) (λ c. search needs) returns)

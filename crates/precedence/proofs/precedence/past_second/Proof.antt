@@ -1,49 +1,47 @@
--- `past_second` meets its contract. `front` is what the test reads of the first rotation. Assumes nothing.
-use Prim.Native.Nat.{suc, _+_}
-use mathlib.Core.Path.{_∙_, ap}
+-- `past_second` meets its contract: the least places past the second rotation, and the test of the first on them.
+-- `front` is what the test reads of the first rotation. Assumes nothing.
+use Prim.Native.Nat.{suc}
+use mathlib.Core.Path.{ap}
 use native.Mathlib.Omega.{arith}
-use lib.Dec.{leb}
-use Rattle.laws.specs.Table.{cell}
-use Rattle.laws.specs.Values.{vec}
-use Rattle.precedence.specs.Laws.ListRead.{Front, readable-front, pastIn}
 use borrow.Author.Needs.{needs}
+use Rattle.laws.specs.Values.{vec}
+use Rattle.precedence.specs.Laws.ListRead.{Front, readable-front}
+use Rattle.precedence.specs.Laws.Required.{past-required}
 use Rattle.precedence.proofs.precedence.past_second.Statement.{statement}
 use Rattle.precedence.proofs.precedence.past_second.Tie as tie
 
-front : (c : tie.After-start-of2) → Front (c .before .before .before .before .before .before .before .before .before .before .args .n) (c .before .before .before .before .before .before .before .before .before .before .args .list .now) (c .start-of2 .result)
-front c = let s = c .before .before .before .before .before .before .before .before .before .before in rw (c .start-of2 .ensures) (readable-front (s .pre .1 .0) (s .pre .1 .1))
+abbrev start : tie.After-start-of → tie.Start
+start c = search
 
-start-of-requires : tie.Need-start-of-requires
-start-of-requires c κs = λ j h. let s = c .before .before .before .before .before .before .before in s .pre .1 .0 .within j (omega (arith, s .pre .1 .2))
+front : (c : tie.After-start-of2) → Front (start (c .before .before) .args .n) (start (c .before .before) .args .list .now) (c .start-of2 .result)
+front c = let s = start (c .before .before) in rw (c .start-of2 .ensures) (readable-front (s .pre .1 .0) {k = s .args .first} (search))
 
 required-requires : tie.Need-required-requires
-required-requires c κs = let s = c .before .before .before .before .before .before .before .before in let e = c .start-of .ensures in (s .pre .0, (rw e (s .pre .1 .0 .turnable (s .args .second) (s .pre .1 .2)), omega (arith, e, ap (vec (s .args .list .now)) e, s .pre .1 .0 .within (suc (s .args .second)) (s .pre .1 .2))))
-
-start-of-requires-2 : tie.Need-start-of-requires-2
-start-of-requires-2 c κs = λ j h. let s = c .before .before .before .before .before .before .before .before .before in s .pre .1 .0 .within j (omega (arith, s .pre .1 .1))
-
-slice-aggregate-past : tie.Need-slice-aggregate-past
-slice-aggregate-past c = search needs
+required-requires c κs =
+    let s = start c in
+    let e = c .start-of .ensures in
+    let R = s .pre .1 .0 in
+    (search, (rw e (R .turnable (s .args .second) (search)), omega (arith, ap (vec (s .args .list .now)) e, R .within (suc (s .args .second)) (search))))
 
 past-requires : tie.Need-past-requires
-past-requires c κs = let s = c .before .before .before .before .before .before .before .before .before .before .before in let f = front (c .before) in (f .room, (f .man, f .woman, omega (arith, c .before .before .required .ensures .long, s .pre .0 .few), s .pre .0 .women .ranked))
+past-requires c κs =
+    let f = front (c .before) in
+    (search, (search, search, omega arith, search))
 
 returns : tie.Need-returns
-unfolding pastIn
-returns c = let s = c .before .before .before .before .before .before .before .before .before .before .before .before in
-    let l = s .args .list .now in
-    let at = c .before .before .start-of2 .result in
-    let e = c .before .before .start-of2 .ensures in
-    let q = c .before .before .before .before .start-of .ensures in
-    c .past .ensures ∙ (ap (leb (cell (s .args .mranks .now) (s .args .n) (vec l (at + 1)) (vec l (at + 4)))) (rw q at (c .before .before .before .required .ensures .same (vec l (at + 1)) (front (c .before .before) .man))) ∙ (rw e))
+returns c =
+    let o : tie.After-start-of2 = search in
+    let r : tie.After-required = search in
+    let s = start (r .before) .args in
+    past-required (s .list .now) (s .first) (s .second) (o .start-of2 .ensures) (r .before .start-of .ensures) (r .required .ensures) (front o .man) (c .past .ensures)
 
 pub past-second-spec : {M : Type 1} → statement M
 past-second-spec =
     tie.close
     (tie.spec
-    start-of-requires
+    (λ c κs j h. let s : tie.Start = search in s .pre .1 .0 .within j (omega arith))
     required-requires
-    start-of-requires-2
-    slice-aggregate-past
+    (λ c κs j h. let s : tie.Start = search in s .pre .1 .0 .within j (omega arith))
+    (λ c. search needs)
     past-requires
     returns)

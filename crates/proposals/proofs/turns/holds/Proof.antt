@@ -1,11 +1,12 @@
--- `holds` computes its test: the first answer is that the place is at the list's end, the second compares who stands there.
--- Assumes nothing.
+-- `holds` computes its test: the first answer is that the place is at the list's end, the second compares who stands
+-- there. Assumes nothing.
 use native.Mathlib.Omega.{arith}
 use lib.ListN.{getD}
 use denote.Ref.{now}
 use borrow.Author.Needs.{needs}
 use borrow.Author.Tests.{le-ltb, lt-ltb}
-use Rattle.proposals.specs.Step.{stored-index}
+use Rattle.tables.specs.Laws.Rows.{stored-index, stored-row}
+use Rattle.tables.specs.Lists.{lenIn}
 use Rattle.proposals.proofs.turns.holds.Statement.{statement}
 use Rattle.proposals.proofs.turns.holds.Tie as tie
 
@@ -18,32 +19,27 @@ shared-slice-read-wide c = search needs
 wide-requires : tie.Need-wide-requires
 wide-requires c κs = search needs
 
-mul-wide-2 : tie.Need-mul-wide-2
-mul-wide-2 c = search needs
-
-shared-slice-read-wide-2 : tie.Need-shared-slice-read-wide-2
-shared-slice-read-wide-2 c = search needs
-
-wide-requires-2 : tie.Need-wide-requires-2
-wide-requires-2 c κs = search needs
+list-len-requires : tie.Need-list-len-requires
+list-len-requires c κs = let s : tie.Start = search in stored-row (s .pre .0) (s .pre .2)
 
 returns : tie.Need-returns
 returns c =
-    let s = c .before .before .before .before .before .before .before .before in
-    rw (le-ltb (getD (now (s .args .p)) (s .args .i) 0) (getD (now (s .args .plens)) (s .args .i) 0) (omega arith))
+    let s : tie.Start = search in
+    rw (le-ltb (getD (now (s .args .p)) (s .args .i) 0) (lenIn (s .args .a) (s .args .b) (now (s .args .plists)) (s .args .i)) (omega arith))
 
-entry-requires : tie.Need-entry-requires
-entry-requires c κs =
-    let s = c .before .before .before .before .before .before .before .before in
-    stored-index (s .pre .0) (s .pre .1) (omega arith)
+list-at-requires : tie.Need-list-at-requires
+list-at-requires c κs =
+    let s : tie.Start = search in
+    stored-index (s .pre .0) (s .pre .2) (omega arith)
 
 returns-2 : tie.Need-returns-2
 returns-2 c =
-    let s = c .before .before .before .before .before .before .before .before .before in
+    let after-wide : tie.After-wide = search in
+    let s : tie.Start = search in
     rw (
-      lt-ltb (getD (now (s .args .p)) (s .args .i) 0) (getD (now (s .args .plens)) (s .args .i) 0) (omega arith),
-      ← c .before .before .before .before .wide .ensures .0,
-      ← c .entry .ensures .0,
+      lt-ltb (getD (now (s .args .p)) (s .args .i) 0) (lenIn (s .args .a) (s .args .b) (now (s .args .plists)) (s .args .i)) (omega arith),
+      ← after-wide .wide .ensures .0,
+      ← c .list-at .ensures .0,
     )
 
 pub holds-spec : {M : Type 1} → statement M
@@ -53,9 +49,7 @@ holds-spec =
     mul-wide
     shared-slice-read-wide
     wide-requires
-    mul-wide-2
-    shared-slice-read-wide-2
-    wide-requires-2
+    list-len-requires
     returns
-    entry-requires
+    list-at-requires
     returns-2)

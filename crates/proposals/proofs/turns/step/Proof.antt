@@ -1,63 +1,74 @@
--- `step` is a turn: each return is one of the five ways that a turn can go.
--- The lemmas at places: `start` is the function's entry, `short` says that c is not off the end, `receiver` that the entry read is
--- a receiver, `took` that she takes c, `some` that somebody had come to her, and `displaced` that the one she ranked best is a proposer. Assumes nothing.
+-- `step` is a turn: each return is one of the five ways that a turn can go. The lemmas at places: `start` is the
+-- function's entry, `short` says that c is not off the end, `receiver` that the entry read is a receiver, `took` that
+-- she takes c, `some` that somebody had come to her, and `displaced` that the one she ranked best is a proposer.
+-- Assumes nothing.
 use Prim.Native.Nat.{_+_, _<_}
 use mathlib.Core.Path.{sym, _∙_, ap}
 use native.Mathlib.Omega.{arith}
 use lib.ListN.{length-set}
 use denote.Ref.{now}
 use borrow.Author.Needs.{needs}
-use Rattle.laws.specs.Table.{cell}
 use Rattle.laws.specs.Values.{vec}
-use Rattle.proposals.specs.Step.{stored-index, stored-entry, stored-after, rank-index, step-off, step-worse, step-free, step-displaced, step-last}
+use Rattle.tables.specs.Laws.Rows.{stored-index, stored-entry, rank-index, stored-row}
+use Rattle.proposals.specs.Laws.Steps.{step-off, step-worse, step-free, step-displaced, step-last}
+use Rattle.tables.specs.Lists.{lenIn, atIn}
 use Rattle.proposals.proofs.turns.step.Statement.{statement}
 use Rattle.proposals.proofs.turns.step.Tie as tie
 
-abbrev start : tie.After-wide2 → tie.Start
-start c = c .before .before .before .before .before .before .before .before .before .before .before
+abbrev start : tie.After-wide → tie.Start
+start c = search
 
 short :
     (c : tie.Else1) →
-    c .before .wide2 .result + 1 < vec (now (start (c .before) .args .plens)) (start (c .before) .args .c)
-short c = omega (arith, c .before .before .before .wide .ensures .0)
+    c .before .wide .result + 1 < lenIn (start (c .before) .args .a) (start (c .before) .args .b) (now (start (c .before) .args .plists)) (start (c .before) .args .c)
+short c =
+    let after-list-len : tie.After-list-len = search in
+    omega (arith, after-list-len .list-len .ensures .0)
 
-receiver : (c : tie.After-entry) → c .entry .result < start (c .before .before) .args .b
+receiver : (c : tie.After-list-at) → c .list-at .result < start (c .before .before) .args .b
 receiver c =
     let s = start (c .before .before) in
-    stored-entry (s .pre .0 .proposers) (s .pre .1 .1 .0) (short (c .before)) (c .entry .ensures .0)
+    stored-entry (s .pre .0 .proposers) (s .pre .1 .1 .0) (short (c .before)) (c .list-at .ensures .0)
 
-took : (c : tie.Else2) → c .before .before .before .entry2 .result < vec (now (start (c .before .before .before .before .before .before) .args .t)) (c .before .before .before .before .entry .result)
-took c = omega (arith, c .before .wide3 .ensures .0)
+abbrev after-entry-took : tie.Else2 → tie.After-entry
+after-entry-took c = search
+
+abbrev after-list-at-took : tie.Else2 → tie.After-list-at
+after-list-at-took c = search
+
+took : (c : tie.Else2) → after-entry-took c .entry .result < vec (now (start (search) .args .t)) (after-list-at-took c .list-at .result)
+took c = omega (arith, c .before .wide2 .ensures .0)
+
+abbrev after-list-at-some : tie.Else3 → tie.After-list-at
+after-list-at-some c = search
 
 some :
     (c : tie.Else3) →
-    vec (now (start (c .before .before .before .before .before .before .before .before .before) .args .t)) (c .before .before .before .before .before .before .before .entry .result) <
-    vec (now (start (c .before .before .before .before .before .before .before .before .before) .args .rlens)) (c .before .before .before .before .before .before .before .entry .result)
-some c = omega (arith, c .before .before .before .before .wide3 .ensures .0, c .before .wide4 .ensures .0)
+    vec (now (start (search) .args .t)) (after-list-at-some c .list-at .result) <
+    lenIn (start (search) .args .b) (start (search) .args .a) (now (start (search) .args .rlists)) (after-list-at-some c .list-at .result)
+some c =
+    let after-wide2 : tie.After-wide2 = search in
+    omega (arith, after-wide2 .wide2 .ensures .0, c .before .list-len2 .ensures .0)
 
-displaced : (c : tie.After-entry3) → c .entry3 .result < start (c .before .before .before .before .before .before .before .before .before .before) .args .a
+displaced : (c : tie.After-list-at2) → c .list-at2 .result < start (search) .args .a
 displaced c =
-    let s = start (c .before .before .before .before .before .before .before .before .before .before) in
-    stored-entry (s .pre .0 .receivers) (receiver (c .before .before .before .before .before .before .before .before)) (some (c .before))
-    (c .entry3 .ensures .0 ∙ ap (cell (now (s .args .rlists)) (s .args .a) (c .before .before .before .before .before .before .before .before .entry .result)) (c .before .before .before .before .before .wide3 .ensures .0))
+    let after-list-at : tie.After-list-at = search in
+    let after-wide2 : tie.After-wide2 = search in
+    let s = start search in
+    stored-entry (s .pre .0 .receivers) (receiver search) (some (c .before))
+    (c .list-at2 .ensures .0 ∙ ap (atIn (s .args .a) (now (s .args .rlists)) (after-list-at .list-at .result)) (after-wide2 .wide2 .ensures .0))
+
+list-len-requires : tie.Need-list-len-requires
+list-len-requires c κs = let s : tie.Start = search in stored-row (s .pre .0 .proposers) (s .pre .1 .1 .0)
 
 mul-wide : tie.Need-mul-wide
 mul-wide c = search needs
 
-shared-slice-read-wide : tie.Need-shared-slice-read-wide
-shared-slice-read-wide c = search needs
-
-wide-requires : tie.Need-wide-requires
-wide-requires c κs = search needs
-
-mul-wide-2 : tie.Need-mul-wide-2
-mul-wide-2 c = search needs
-
 slice-read-wide : tie.Need-slice-read-wide
 slice-read-wide c = search needs
 
-wide-requires-2 : tie.Need-wide-requires-2
-wide-requires-2 c κs = search needs
+wide-requires : tie.Need-wide-requires
+wide-requires c κs = search needs
 
 add-place : tie.Need-add-place
 add-place c = search needs
@@ -78,31 +89,32 @@ same-length : tie.Need-same-length
 same-length c = search needs
 
 returns : tie.Need-returns
-returns c = let s = start (c .before) in step-off (s .pre .0) (s .pre .1 .0) (s .pre .1 .1 .0) (s .pre .1 .1 .1) (c .before .wide2 .ensures .0) (omega arith)
+returns c = let s = start (c .before) in step-off (s .pre .0) (s .pre .1 .0) (s .pre .1 .1 .0) (s .pre .1 .1 .1) (c .before .wide .ensures .0) (omega arith)
+
+list-at-requires : tie.Need-list-at-requires
+list-at-requires c κs = let s = start (c .before) in stored-index (s .pre .0 .proposers) (s .pre .1 .1 .0) (short c)
 
 entry-requires : tie.Need-entry-requires
-entry-requires c κs = let s = start (c .before) in stored-index (s .pre .0 .proposers) (s .pre .1 .1 .0) (short c)
+entry-requires c κs = let s = start (c .before .before) in rank-index (now (s .args .ranks)) (s .pre .0 .ranked) (s .pre .1 .1 .0) (receiver c)
 
-entry-requires-2 : tie.Need-entry-requires-2
-entry-requires-2 c κs = let s = start (c .before .before) in rank-index (now (s .args .ranks)) (s .pre .0 .ranked) (s .pre .1 .1 .0) (receiver c)
-
-mul-wide-3 : tie.Need-mul-wide-3
-mul-wide-3 c = search needs
+mul-wide-2 : tie.Need-mul-wide-2
+mul-wide-2 c = search needs
 
 slice-read-wide-2 : tie.Need-slice-read-wide-2
-slice-read-wide-2 c = let s = start (c .before .before .before .before) in omega (arith, receiver (c .before .before), s .pre .1 .0 .bests)
+slice-read-wide-2 c = let s = start search in omega (arith, receiver (c .before .before), s .pre .1 .0 .bests)
 
-wide-requires-3 : tie.Need-wide-requires-3
-wide-requires-3 c κs = search needs
+wide-requires-2 : tie.Need-wide-requires-2
+wide-requires-2 c κs = search needs
 
 same-length-2 : tie.Need-same-length-2
 same-length-2 c = search needs
 
 returns-2 : tie.Need-returns-2
 returns-2 c =
-    let e = c .before .before .before .before in
+    let after-entry : tie.After-entry = search in
+    let e : tie.After-list-at = search in
     let s = start (e .before .before) in
-    step-worse (s .pre .0) (s .pre .1 .0) (s .pre .1 .1 .0) (s .pre .1 .1 .1) (e .before .before .wide2 .ensures .0) (short (e .before)) (e .entry .ensures .0) (c .before .before .before .entry2 .ensures .0) (omega arith)
+    step-worse (s .pre .0) (s .pre .1 .0) (s .pre .1 .1 .0) (s .pre .1 .1 .1) (e .before .before .wide .ensures .0) (short (e .before)) (e .list-at .ensures .0) (after-entry .entry .ensures .0) (omega arith)
 
 cast-t : tie.Need-cast-t
 cast-t c = search needs
@@ -111,16 +123,10 @@ mul-t : tie.Need-mul-t
 mul-t c = search needs
 
 slice-write-t : tie.Need-slice-write-t
-slice-write-t c = let s = start (c .before .before .before .before .before .before) in omega (arith, receiver (c .before .before .before .before), s .pre .1 .0 .bests)
+slice-write-t c = let s = start search in omega (arith, receiver search, s .pre .1 .0 .bests)
 
-mul-wide-4 : tie.Need-mul-wide-4
-mul-wide-4 c = search needs
-
-shared-slice-read-wide-2 : tie.Need-shared-slice-read-wide-2
-shared-slice-read-wide-2 c = let s = start (c .before .before .before .before .before .before .before) in omega (arith, receiver (c .before .before .before .before .before), s .pre .0 .receivers .lengths)
-
-wide-requires-4 : tie.Need-wide-requires-4
-wide-requires-4 c κs = search needs
+list-len-requires-2 : tie.Need-list-len-requires-2
+list-len-requires-2 c κs = let s = start search in stored-row (s .pre .0 .receivers) (receiver search)
 
 add-result-2 : tie.Need-add-result-2
 add-result-2 c = search needs
@@ -133,19 +139,19 @@ same-length-4 c = search needs
 
 returns-3 : tie.Need-returns-3
 returns-3 c =
-    let e = c .before .before .before .before .before .before .before in
+    let after-wide2 : tie.After-wide2 = search in
+    let after-entry : tie.After-entry = search in
+    let e : tie.After-list-at = search in
     let s = start (e .before .before) in
-    step-free (s .pre .0) (s .pre .1 .0) (s .pre .1 .1 .0) (s .pre .1 .1 .1) (e .before .before .wide2 .ensures .0) (short (e .before)) (e .entry .ensures .0) (c .before .before .before .before .before .before .entry2 .ensures .0) (took (c .before .before .before)) (omega arith)
+    step-free (s .pre .0) (s .pre .1 .0) (s .pre .1 .1 .0) (s .pre .1 .1 .1) (e .before .before .wide .ensures .0) (short (e .before)) (e .list-at .ensures .0) (after-entry .entry .ensures .0) (took search) (omega (arith, c .if3 .taken, c .before .list-len2 .ensures .0, after-wide2 .wide2 .ensures .0))
 
-entry-requires-3 : tie.Need-entry-requires-3
-entry-requires-3 c κs = let s = start (c .before .before .before .before .before .before .before .before .before) in stored-index (s .pre .0 .receivers) (receiver (c .before .before .before .before .before .before .before)) (omega arith)
+list-at-requires-2 : tie.Need-list-at-requires-2
+list-at-requires-2 c κs = let s = start search in stored-index (s .pre .0 .receivers) (receiver search) (omega arith)
 
 holds-requires : tie.Need-holds-requires
 holds-requires c κs =
-    let s = start (c .before .before .before .before .before .before .before .before .before .before .before) in (
-      stored-after (now (s .args .p)) (s .args .c) (c .before .before .before .before .before .before .before .before .before .before .before .wide2 .result + 1) (s .pre .0 .proposers) (s .pre .1 .0 .places),
-      rw length-set (rw (s .pre .1 .0 .places) (displaced (c .before))),
-    )
+    let s = start search in
+    (s .pre .0 .proposers, simp length-set (s .pre .1 .0 .places), displaced (c .before))
 
 same-length-5 : tie.Need-same-length-5
 same-length-5 c = search needs
@@ -155,9 +161,12 @@ same-length-6 c = search needs
 
 returns-4 : tie.Need-returns-4
 returns-4 c =
-    let e = c .before .before .before .before .before .before .before .before .before .before .before in
+    let after-entry : tie.After-entry = search in
+    let after-wide2 : tie.After-wide2 = search in
+    let after-list-at2 : tie.After-list-at2 = search in
+    let e : tie.After-list-at = search in
     let s = start (e .before .before) in
-    step-displaced (s .pre .0) (s .pre .1 .0) (s .pre .1 .1 .0) (s .pre .1 .1 .1) (e .before .before .wide2 .ensures .0) (short (e .before)) (e .entry .ensures .0) (c .before .before .before .before .before .before .before .before .before .before .entry2 .ensures .0) (took (c .before .before .before .before .before .before .before)) (c .before .before .before .before .before .before .before .before .wide3 .ensures .0) (some (c .before .before .before .before)) (c .before .before .before .entry3 .ensures .0) (sym (c .before .holds .ensures) ∙ c .if4 .taken)
+    step-displaced (s .pre .0) (s .pre .1 .0) (s .pre .1 .1 .0) (s .pre .1 .1 .1) (e .before .before .wide .ensures .0) (short (e .before)) (e .list-at .ensures .0) (after-entry .entry .ensures .0) (took search) (after-wide2 .wide2 .ensures .0) (some search) (after-list-at2 .list-at2 .ensures .0) (sym (c .before .holds .ensures) ∙ c .if4 .taken)
 
 same-length-7 : tie.Need-same-length-7
 same-length-7 c = search needs
@@ -167,20 +176,21 @@ same-length-8 c = search needs
 
 returns-5 : tie.Need-returns-5
 returns-5 c =
-    let e = c .before .before .before .before .before .before .before .before .before .before .before in
+    let after-entry : tie.After-entry = search in
+    let after-wide2 : tie.After-wide2 = search in
+    let after-list-at2 : tie.After-list-at2 = search in
+    let e : tie.After-list-at = search in
     let s = start (e .before .before) in
-    step-last (s .pre .0) (s .pre .1 .0) (s .pre .1 .1 .0) (s .pre .1 .1 .1) (e .before .before .wide2 .ensures .0) (short (e .before)) (e .entry .ensures .0) (c .before .before .before .before .before .before .before .before .before .before .entry2 .ensures .0) (took (c .before .before .before .before .before .before .before)) (c .before .before .before .before .before .before .before .before .wide3 .ensures .0) (some (c .before .before .before .before)) (c .before .before .before .entry3 .ensures .0) (sym (c .before .holds .ensures) ∙ c .if4 .left)
+    step-last (s .pre .0) (s .pre .1 .0) (s .pre .1 .1 .0) (s .pre .1 .1 .1) (e .before .before .wide .ensures .0) (short (e .before)) (e .list-at .ensures .0) (after-entry .entry .ensures .0) (took search) (after-wide2 .wide2 .ensures .0) (some search) (after-list-at2 .list-at2 .ensures .0) (sym (c .before .holds .ensures) ∙ c .if4 .left)
 
 pub step-spec : {M : Type 1} → statement M
 step-spec =
     tie.close
     (tie.spec
+    list-len-requires
     mul-wide
-    shared-slice-read-wide
-    wide-requires
-    mul-wide-2
     slice-read-wide
-    wide-requires-2
+    wide-requires
     add-place
     cast-p
     mul-p
@@ -188,24 +198,22 @@ step-spec =
     add-result
     same-length
     returns
+    list-at-requires
     entry-requires
-    entry-requires-2
-    mul-wide-3
+    mul-wide-2
     slice-read-wide-2
-    wide-requires-3
+    wide-requires-2
     same-length-2
     returns-2
     cast-t
     mul-t
     slice-write-t
-    mul-wide-4
-    shared-slice-read-wide-2
-    wide-requires-4
+    list-len-requires-2
     add-result-2
     same-length-3
     same-length-4
     returns-3
-    entry-requires-3
+    list-at-requires-2
     holds-requires
     same-length-5
     same-length-6

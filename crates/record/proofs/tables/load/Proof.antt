@@ -1,8 +1,8 @@
--- `load` meets its contract: each table is filled from zeros. Assumes nothing.
+-- `load` meets its contract: the tables of each side are filled from zeros. Assumes nothing.
 use mathlib.Core.Path.{refl}
 use native.Mathlib.Omega.{arith}
 use Rattle.format.specs.Ranks.{number-source}
-use Rattle.record.specs.Laws.Fills.{lengths-start, rows-start, recorded}
+use Rattle.record.specs.Laws.Fills.{side-start, recorded}
 use borrow.Author.Needs.{needs}
 use Rattle.record.proofs.tables.load.Statement.{statement}
 use Rattle.record.proofs.tables.load.Tie as tie
@@ -13,43 +13,24 @@ check-requires c κs = search needs
 number-requires : tie.Need-number-requires
 number-requires c κs = search needs
 
-fill-lengths-requires : tie.Need-fill-lengths-requires
-fill-lengths-requires c κs = (record { source = number-source (c .before .number .ensures); start = omega arith }, lengths-start _ _)
+fill-side-requires : tie.Need-fill-side-requires
+fill-side-requires c κs =
+    let d : tie.After-number = search in
+    let start : tie.Start = search in
+    (record { source = number-source (d .number .ensures); start = omega arith }, side-start _ _ _ (start .pre .0))
 
-fill-lists-requires : tie.Need-fill-lists-requires
-fill-lists-requires c κs = (record { source = number-source (c .before .before .before .number .ensures); start = omega arith }, rows-start _ _ _)
-
-fill-ranks-requires : tie.Need-fill-ranks-requires
-fill-ranks-requires c κs = (record { source = number-source (c .before .before .before .before .before .number .ensures); start = omega arith }, rows-start _ _ _)
-
-fill-lengths-requires-2 : tie.Need-fill-lengths-requires-2
-fill-lengths-requires-2 c κs = (record { source = number-source (c .before .before .before .before .before .before .before .number .ensures); start = omega arith }, lengths-start _ _)
-
-fill-lists-requires-2 : tie.Need-fill-lists-requires-2
-fill-lists-requires-2 c κs = (record { source = number-source (c .before .before .before .before .before .before .before .before .before .number .ensures); start = omega arith }, rows-start _ _ _)
-
-fill-ranks-requires-2 : tie.Need-fill-ranks-requires-2
-fill-ranks-requires-2 c κs = (record { source = number-source (c .before .before .before .before .before .before .before .before .before .before .before .number .ensures); start = omega arith }, rows-start _ _ _)
+fill-side-requires-2 : tie.Need-fill-side-requires-2
+fill-side-requires-2 c κs =
+    let d : tie.After-number = search in
+    let start : tie.Start = search in
+    (record { source = number-source (d .number .ensures); start = omega arith }, side-start _ _ _ (start .pre .1))
 
 returns : tie.Need-returns
 returns c =
-    recorded (c .before .before .before .before .before .before .before .before .before .before .before .before .before .check .ensures) (c .before .before .before .before .before .before .before .before .before .before .before .before .number .ensures)
-    (record {
-      number = refl;
-      men = record { lengths-done = c .before .before .before .before .before .before .before .before .before .before .fill-lengths .ensures; lists-done = c .before .before .before .before .before .before .before .before .fill-lists .ensures; ranks-done = c .before .before .before .before .before .before .fill-ranks .ensures };
-      women = record { lengths-done = c .before .before .before .before .fill-lengths2 .ensures; lists-done = c .before .before .fill-lists2 .ensures; ranks-done = c .fill-ranks2 .ensures };
-    })
+    let men : tie.After-fill-side = search in
+    let d : tie.After-number = search in
+    let k : tie.After-check = search in
+    recorded (k .check .ensures) (d .number .ensures) refl (record { number = refl; men = men .fill-side .ensures; women = c .fill-side2 .ensures })
 
 pub load-spec : {M : Type 1} → statement M
-load-spec =
-    tie.close
-    (tie.spec
-    check-requires
-    number-requires
-    fill-lengths-requires
-    fill-lists-requires
-    fill-ranks-requires
-    fill-lengths-requires-2
-    fill-lists-requires-2
-    fill-ranks-requires-2
-    returns)
+load-spec = tie.close (tie.spec check-requires number-requires fill-side-requires fill-side-requires-2 returns)

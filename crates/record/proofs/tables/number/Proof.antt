@@ -29,6 +29,7 @@ wide-requires : tie.Need-wide-requires
 wide-requires c κs = search needs
 
 returns-2 : tie.Need-returns-2
+unfolding people
 returns-2 c = c .wide .ensures .0 ∙ sym (ap (λ (v : Verdict). numberIf v (people (c .before .before .before .before .before .args .book .now))) (passed (c .before .before)))
 
 pub number-spec : {M : Type 1} → statement M

@@ -12,12 +12,6 @@ use Rattle.repair_answer.proofs.gains.gain.Tie as tie
 fits : (c : tie.Start) → SFits w8 (less (c .args .old) (c .args .new))
 fits c = record { sfits = omega (arith, less-mag {a = c .args .old} {b = c .args .new} {k = 127} (omega (arith, c .pre .0)) (omega (arith, c .pre .1))) }
 
-cast-result : tie.Need-cast-result
-cast-result c = search needs
-
-cast-result-2 : tie.Need-cast-result-2
-cast-result-2 c = search needs
-
 sub-result : tie.Need-sub-result
 sub-result c = rw (toZ-pos w8 (c .args .old) (c .pre .0), toZ-pos w8 (c .args .new) (c .pre .1)) (fits c)
 
@@ -26,4 +20,4 @@ returns c =
     rw (toZ-pos w8 (c .args .old) (c .pre .0), toZ-pos w8 (c .args .new) (c .pre .1), toZ-ofZ w8 (less (c .args .old) (c .args .new)) (fits c))
 
 pub gain-spec : {M : Type 1} → statement M
-gain-spec = tie.close (tie.spec cast-result cast-result-2 sub-result returns)
+gain-spec = tie.close (tie.spec (λ c. search needs) (λ c. search needs) sub-result returns)

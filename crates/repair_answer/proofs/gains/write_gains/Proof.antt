@@ -1,5 +1,5 @@
--- `write_gains` meets its contract. The loop's invariant: the first i entries are gains, and past them the buffer is as it was.
--- The measure is what is left of n. Assumes nothing.
+-- `write_gains` meets its contract. The loop's invariant: the first i entries are gains, and past them the buffer is
+-- as it was. The measure is what is left of n. Assumes nothing.
 use Prim.Native.Nat.{_≤_, _<_, _-_}
 use mathlib.Core.Path.{_≡_, refl, _∙_, ap}
 use native.Mathlib.Omega.{arith}
@@ -19,56 +19,42 @@ Inv-loop n old new gains₀ i₀ gains i = (i ≤ n) × (gains ≡ refilled (λ 
 abbrev μ-loop : tie.MeasureT-loop
 μ-loop n old new gains₀ i₀ gains i = n - i
 
+abbrev Start : Type 0
+Start = tie.Start Inv-loop μ-loop
+
+abbrev start : tie.At-loop Inv-loop μ-loop → Start
+start c = search
+
 -- the buffer is as long as it was
-long : (c : tie.At-loop Inv-loop μ-loop) → length (c .loop .gains) ≡ length (c .before .before .before .args .gains .now)
+long : (c : tie.At-loop Inv-loop μ-loop) → length (c .loop .gains) ≡ length (start c .args .gains .now)
 long c =
-    let s = c .before .before .before in
-    ap length (c .loop .inv .1) ∙ length-refilled (pos 0) _ (s .args .gains .now) {k = c .loop .i} (omega (arith, s .pre .1 .1))
-
-loop-holds : tie.Need-loop-holds Inv-loop μ-loop
-loop-holds c = (omega arith, refl)
-
-mul-gain : tie.Need-mul-gain Inv-loop μ-loop
-mul-gain c = omega (arith, c .before .before .before .before .pre .0 .long)
-
-shared-slice-read-gain : tie.Need-shared-slice-read-gain Inv-loop μ-loop
-shared-slice-read-gain c = omega (arith, c .before .before .before .before .before .pre .0 .long)
-
-mul-gain-2 : tie.Need-mul-gain-2 Inv-loop μ-loop
-mul-gain-2 c = omega (arith, c .before .before .before .before .before .pre .0 .long)
-
-shared-slice-read-gain-2 : tie.Need-shared-slice-read-gain-2 Inv-loop μ-loop
-shared-slice-read-gain-2 c = omega (arith, c .before .before .before .before .before .before .pre .1 .0 .long)
+    let s = start c in
+    ap length (c .loop .inv .1) ∙ length-refilled (pos 0) _ (s .args .gains .now) {k = c .loop .i} (omega (arith, s .pre .1))
 
 gain-requires : tie.Need-gain-requires Inv-loop μ-loop
 gain-requires c κs =
-    let s = c .before .before .before .before .before .before in
-    (s .pre .0 .small (c .before .before .loop-test .taken), s .pre .1 .0 .small (c .before .before .loop-test .taken))
+    let t : tie.In-loop Inv-loop μ-loop = search in
+    let s : Start = search in
+    (s .pre .0 .0 .small (t .loop-test .taken), s .pre .0 .1 .small (t .loop-test .taken))
 
 slice-set-from-g : tie.Need-slice-set-from-g Inv-loop μ-loop
-slice-set-from-g c = omega (arith, long (c .before .before .before .before), c .before .before .before .before .before .before .before .pre .1 .1)
-
-add-i : tie.Need-add-i Inv-loop μ-loop
-add-i c = omega arith
-
-loop-less : tie.Need-loop-less Inv-loop μ-loop
-loop-less c = omega arith
+slice-set-from-g c =
+    let l : tie.At-loop Inv-loop μ-loop = search in
+    omega (arith, long l, start l .pre .1)
 
 loop-again : tie.Need-loop-again Inv-loop μ-loop
 loop-again c =
-    let s = c .before .before .before .before .before .before .before in
-    let i = c .before .before .before .before .loop .i in
-    let h : i < length (s .args .gains .now) = omega (arith, s .pre .1 .1) in
-    (omega arith, refilled-on (pos 0) _ (s .args .gains .now) (c .before .before .before .before .loop .inv .1) (toZ-ofZ w8 (c .gain .result) (record { sfits = c .gain .ok }) ∙ c .gain .ensures) h)
-
-same-length : tie.Need-same-length Inv-loop μ-loop
-same-length c = long (c .before)
+    let l : tie.At-loop Inv-loop μ-loop = search in
+    let s = start l in
+    let h : l .loop .i < length (s .args .gains .now) = omega (arith, s .pre .1) in
+    let e = toZ-ofZ w8 (c .gain .result) (record { sfits = c .gain .ok }) ∙ c .gain .ensures in
+    (omega arith, refilled-on (pos 0) _ (s .args .gains .now) (l .loop .inv .1) e h)
 
 returns : tie.Need-returns Inv-loop μ-loop
 returns c =
-    let s = c .before .before .before .before in
-    let e : c .before .loop .i ≡ s .args .n = omega arith in
-    rw (← e) (c .before .loop .inv .1)
+    let l : tie.At-loop Inv-loop μ-loop = search in
+    let e : l .loop .i ≡ start l .args .n = omega arith in
+    rw (← e) (l .loop .inv .1)
 
 pub write-gains-spec : {M : Type 1} → statement M
 write-gains-spec =
@@ -76,15 +62,15 @@ write-gains-spec =
     (tie.spec
     Inv-loop
     μ-loop
-    loop-holds
-    mul-gain
-    shared-slice-read-gain
-    mul-gain-2
-    shared-slice-read-gain-2
+    (λ c. (omega arith, refl))
+    (λ c. let s : Start = search in omega (arith, s .pre .0 .0 .long))
+    (λ c. let s : Start = search in omega (arith, s .pre .0 .0 .long))
+    (λ c. let s : Start = search in omega (arith, s .pre .0 .0 .long))
+    (λ c. let s : Start = search in omega (arith, s .pre .0 .1 .long))
     gain-requires
     slice-set-from-g
-    add-i
-    loop-less
+    (λ c. omega arith)
+    (λ c. omega arith)
     loop-again
-    same-length
+    (λ c. long (c .before))
     returns)

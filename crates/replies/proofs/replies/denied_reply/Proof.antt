@@ -3,11 +3,5 @@ use borrow.Author.Needs.{needs}
 use Rattle.replies.proofs.replies.denied_reply.Statement.{statement}
 use Rattle.replies.proofs.replies.denied_reply.Tie as tie
 
-wide-requires : tie.Need-wide-requires
-wide-requires c κs = search needs
-
-returns : tie.Need-returns
-returns c = cc
-
 pub denied-reply-spec : {M : Type 1} → statement M
-denied-reply-spec = tie.close (tie.spec wide-requires returns)
+denied-reply-spec = tie.close (tie.spec (λ c κs. search needs) (λ c. cc))

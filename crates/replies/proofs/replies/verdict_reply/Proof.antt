@@ -3,18 +3,6 @@ use borrow.Author.Needs.{needs}
 use Rattle.replies.proofs.replies.verdict_reply.Statement.{statement}
 use Rattle.replies.proofs.replies.verdict_reply.Tie as tie
 
-enum-told : tie.Need-enum-told
-enum-told c = search needs
-
-granted-reply-requires : tie.Need-granted-reply-requires
-granted-reply-requires c κs = search needs
-
-enum-known-checked : tie.Need-enum-known-checked
-enum-known-checked c = search needs
-
-denied-reply-requires : tie.Need-denied-reply-requires
-denied-reply-requires c κs = search needs
-
 returns : tie.Need-returns
 returns c = rw (c .before .enum-told .given .1) (c .granted-reply .ensures)
 
@@ -25,9 +13,9 @@ pub verdict-reply-spec : {M : Type 1} → statement M
 verdict-reply-spec =
     tie.close
     (tie.spec
-    enum-told
-    granted-reply-requires
-    enum-known-checked
-    denied-reply-requires
+    (λ c. search needs)
+    (λ c κs. search needs)
+    (λ c. search needs)
+    (λ c κs. search needs)
     returns
     returns-2)

@@ -1,13 +1,14 @@
--- `copy` meets its contract. The loop's invariant: the first i numbers stand at the front of `out`, which is as long as it was.
--- Assumes nothing.
+-- `copy` meets its contract. The loop's invariant: the first i numbers stand at the front of `out`, which is as long
+-- as it was. Assumes nothing.
 use Prim.Native.Nat.{ℕ, _+_, _-_, _≤_}
-use mathlib.Core.Path.{_≡_, refl, sym, _∙_, ap}
+use mathlib.Core.Path.{_≡_, sym, _∙_, ap}
 use mathlib.Core.List.{List}
 use native.Mathlib.Omega.{arith}
+use borrow.Author.Needs.{needs}
 use native.Mathlib.Nat.{zero-add}
 use native.Mathlib.Numerals.{add-one}
 use lib.ListN.{length, getD, set, length-set}
-use lib.Seq.{paste, paste-zero, paste-suc}
+use lib.Seq.{paste, paste-suc}
 use Rattle.rotation_list.proofs.listing.copy.Statement.{statement}
 use Rattle.rotation_list.proofs.listing.copy.Tie as tie
 
@@ -17,45 +18,29 @@ Inv-loop numbers end out₀ i₀ out i = (i ≤ end) × (out ≡ paste out₀ 0 
 abbrev μ-loop : tie.MeasureT-loop
 μ-loop numbers end out₀ i₀ out i = end - i
 
-loop-holds : tie.Need-loop-holds Inv-loop μ-loop
-loop-holds c = (omega arith, paste-zero (c .args .out .now) 0 (c .args .numbers .now), refl)
-
-mul-out : tie.Need-mul-out Inv-loop μ-loop
-mul-out c = let s = c .before .before in omega (arith, s .good .0, s .pre .0 .0)
-
-shared-slice-read-out : tie.Need-shared-slice-read-out Inv-loop μ-loop
-shared-slice-read-out c = let s = c .before .before .before in omega (arith, s .pre .0 .0)
-
-cast-out : tie.Need-cast-out Inv-loop μ-loop
-cast-out c = let s = c .before .before .before in omega (arith, s .pre .1 (c .before .before .loop .i) (c .before .loop-test .taken))
-
-slice-write-out : tie.Need-slice-write-out Inv-loop μ-loop
-slice-write-out c = let s = c .before .before .before in omega (arith, s .pre .0 .1, c .before .before .loop .inv .2)
-
-add-i : tie.Need-add-i Inv-loop μ-loop
-add-i c = omega arith
-
-loop-less : tie.Need-loop-less Inv-loop μ-loop
-loop-less c = omega arith
+put-number-requires : tie.Need-put-number-requires Inv-loop μ-loop
+put-number-requires c κs =
+    let t : tie.In-loop Inv-loop μ-loop = search in
+    let s : tie.Start Inv-loop μ-loop = search in
+    (omega (arith, s .pre .0 .1), s .pre .1 _ (t .loop-test .taken))
 
 loop-again : tie.Need-loop-again Inv-loop μ-loop
 loop-again c =
-    let s = c .before .before .before in
-    let l = s .args .numbers .now in
-    let i = c .before .before .loop .i in
-    let v = c .before .before .loop .inv in (
+    let s : tie.Start Inv-loop μ-loop = search in
+    let o = s .args .out .now in
+    let n = s .args .numbers .now in
+    let l : tie.At-loop Inv-loop μ-loop = search in
+    let p : tie.After-put-number Inv-loop μ-loop = search in
+    let i = l .loop .i in (
       omega arith,
-      rw (zero-add i) at (ap (λ (o : List ℕ). set o (0 + i) (getD l i 0)) (v .1) ∙ (paste-suc (s .args .out .now) 0 l i 0 (omega (arith, s .pre .0 .1)) (omega (arith, s .pre .0 .0)) ∙ ap (paste (s .args .out .now) 0 l) (sym (add-one i)))),
-      simp length-set (v .2),
+      p .put-number .ensures ∙ rw (zero-add i) at (ap (λ (m : List ℕ). set m (0 + i) (getD n i 0)) (l .loop .inv .1) ∙ (paste-suc o 0 n i 0 (omega arith) (omega arith) ∙ ap (paste o 0 n) (sym (add-one i)))),
+      rw (p .put-number .ensures) (simp length-set (l .loop .inv .2)),
     )
-
-same-length : tie.Need-same-length Inv-loop μ-loop
-same-length c = c .before .loop .inv .2
 
 returns : tie.Need-returns Inv-loop μ-loop
 returns c =
-    let s = c .before .before in
-    let e : c .before .loop .i ≡ s .args .end = omega (arith, c .before .loop .inv .0, c .loop-test .left) in
+    let s : tie.Start Inv-loop μ-loop = search in
+    let e : c .before .loop .i ≡ s .args .end = omega arith in
     rw zero-add at (c .before .loop .inv .1 ∙ ap (paste (s .args .out .now) 0 (s .args .numbers .now)) e)
 
 pub copy-spec : {M : Type 1} → statement M
@@ -64,13 +49,12 @@ copy-spec =
     (tie.spec
     Inv-loop
     μ-loop
-    loop-holds
-    mul-out
-    shared-slice-read-out
-    cast-out
-    slice-write-out
-    add-i
-    loop-less
+    (λ c. search needs)
+    (λ c. search needs)
+    (λ c. search needs)
+    put-number-requires
+    (λ c. search needs)
+    (λ c. search needs)
     loop-again
-    same-length
+    (λ c. search needs)
     returns)

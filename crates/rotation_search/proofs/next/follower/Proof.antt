@@ -1,118 +1,83 @@
--- `follower` meets its contract. `stopped` is where the search along the list ends, `listed` says that this is before the
--- end, `receiver` that the entry read there is a receiver. Assumes nothing.
+-- `follower` meets its contract: the search along the list stops at its end, at a free receiver, or at one who is
+-- held. `listed` says that it stops before the end, `receiver` that the entry read there is a receiver.
+-- Assumes nothing.
 use Prim.Native.Nat.{_<_}
 use native.Mathlib.Omega.{arith}
-use denote.Ref.{now}
-use Rattle.laws.specs.Values.{vec}
-use Rattle.proposals.specs.Step.{stored-index, stored-entry}
-use Rattle.rotation_search.specs.Laws.NextCode.{answer-end, answer-free, answer-held}
 use borrow.Author.Needs.{needs}
+use Rattle.tables.specs.Lists.{lenIn}
+use Rattle.tables.specs.Laws.Rows.{stored-row, stored-index, stored-entry}
+use Rattle.rotation_search.specs.Laws.NextCode.{answer-end, answer-free, answer-held}
 use Rattle.rotation_search.proofs.next.follower.Statement.{statement}
 use Rattle.rotation_search.proofs.next.follower.Tie as tie
 
-listed : (c : tie.Else1) → c .before .before .before .advance .result < vec (now (c .before .before .before .before .before .before .before .before .before .before .before .before .before .before .args .plens)) (c .before .before .before .before .before .before .before .before .before .before .before .before .before .before .args .i)
-listed c = omega (arith, c .before .wide2 .ensures .0, c .if1 .left)
+-- from each place to the one before it that the proof names
+abbrev start : tie.After-advance → tie.Start
+start c = search
 
-receiver : (c : tie.After-entry) → c .entry .result < c .before .before .before .before .before .before .before .before .before .before .before .before .before .before .before .args .b
-receiver c = let s = c .before .before .before .before .before .before .before .before .before .before .before .before .before .before .before in stored-entry (s .pre .0 .proposers) (s .pre .1 .1 .0 .1) (listed (c .before)) (c .entry .ensures .0)
+abbrev stop : tie.Else1 → tie.After-advance
+stop c = search
 
-mul-wide : tie.Need-mul-wide
-mul-wide c = search needs
+listed : (c : tie.Else1) → stop c .advance .result < lenIn (start (stop c) .args .a) (start (stop c) .args .b) (start (stop c) .args .plists .now) (start (stop c) .args .i)
+listed c = omega arith
 
-slice-read-wide : tie.Need-slice-read-wide
-slice-read-wide c = search needs
-
-wide-requires : tie.Need-wide-requires
-wide-requires c κs = search needs
+receiver : (c : tie.After-list-at) → c .list-at .result < start (stop (c .before)) .args .b
+receiver c = stored-entry (start (stop (c .before)) .pre .0 .proposers) (search) (listed (search)) (c .list-at .ensures .0)
 
 advance-requires : tie.Need-advance-requires
-advance-requires c κs = let s = c .before .before .before .before .before .before .before .before .before .before in (s .pre .0, ((s .pre .1 .0 .bests, s .pre .1 .1 .0 .1, c .wide .ensures .1), (rw (c .wide .ensures .0) (s .pre .1 .1 .1 .advanced .passed (s .pre .1 .1 .0 .1)))))
-
-cast-next : tie.Need-cast-next
-cast-next c = search needs
-
-mul-next : tie.Need-mul-next
-mul-next c = search needs
-
-slice-write-next : tie.Need-slice-write-next
-slice-write-next c = search needs
-
-mul-wide-2 : tie.Need-mul-wide-2
-mul-wide-2 c = search needs
-
-shared-slice-read-wide : tie.Need-shared-slice-read-wide
-shared-slice-read-wide c = search needs
-
-wide-requires-2 : tie.Need-wide-requires-2
-wide-requires-2 c κs = search needs
-
-same-length : tie.Need-same-length
-same-length c = search needs
+advance-requires c κs =
+    let s : tie.Start = search in
+    (search, ((search, search, search), rw (c .wide .ensures .0) (s .pre .1 .1 .1 .advanced .none (search))))
 
 returns : tie.Need-returns
-returns c = let s = c .before .before .before .before .before .before .before .before .before .before .before .before .before .before in answer-end (s .pre .0) (now (s .args .next)) (s .pre .1 .1 .1) (s .pre .1 .1 .0 .1) (s .pre .1 .1 .0 .0) (c .before .before .before .advance .ensures .0) (omega (arith, c .before .wide2 .ensures .0, c .if1 .taken))
-
-entry-requires : tie.Need-entry-requires
-entry-requires c κs = let s = c .before .before .before .before .before .before .before .before .before .before .before .before .before .before in stored-index (s .pre .0 .proposers) (s .pre .1 .1 .0 .1) (listed c)
-
-mul-wide-3 : tie.Need-mul-wide-3
-mul-wide-3 c = search needs
-
-shared-slice-read-wide-2 : tie.Need-shared-slice-read-wide-2
-shared-slice-read-wide-2 c = let s = c .before .before .before .before .before .before .before .before .before .before .before .before .before .before .before .before in omega (arith, receiver (c .before), s .pre .1 .0 .bests)
-
-wide-requires-3 : tie.Need-wide-requires-3
-wide-requires-3 c κs = search needs
-
-mul-wide-4 : tie.Need-mul-wide-4
-mul-wide-4 c = search needs
-
-shared-slice-read-wide-3 : tie.Need-shared-slice-read-wide-3
-shared-slice-read-wide-3 c = let s = c .before .before .before .before .before .before .before .before .before .before .before .before .before .before .before .before .before .before in omega (arith, receiver (c .before .before .before), s .pre .0 .receivers .lengths)
-
-wide-requires-4 : tie.Need-wide-requires-4
-wide-requires-4 c κs = search needs
-
-same-length-2 : tie.Need-same-length-2
-same-length-2 c = search needs
+returns c =
+    let d : tie.After-advance = search in
+    let s = start d in
+    answer-end (s .pre .0) (s .args .next .now) (search) (search) (search) (search) (omega arith)
 
 returns-2 : tie.Need-returns-2
-returns-2 c = let s = c .before .before .before .before .before .before .before .before .before .before .before .before .before .before .before .before .before .before .before .before in answer-free (s .pre .0) (now (s .args .next)) (s .pre .1 .1 .1) (s .pre .1 .1 .0 .1) (s .pre .1 .1 .0 .0) (c .before .before .before .before .before .before .before .before .before .advance .ensures .0) (listed (c .before .before .before .before .before .before)) (c .before .before .before .before .before .entry .ensures .0) (c .before .before .before .wide3 .ensures .0) (omega (arith, c .before .wide4 .ensures .0, c .if2 .taken))
+returns-2 c =
+    let w : tie.After-wide2 = search in
+    let e : tie.After-list-at = search in
+    let d = stop (e .before) in
+    let s = start d in
+    answer-free (s .pre .0) (s .args .next .now) (search) (search) (search) (d .advance .ensures .0) (listed (e .before)) (e .list-at .ensures .0)
+    (w .wide2 .ensures .0) (omega arith)
 
-entry-requires-2 : tie.Need-entry-requires-2
-entry-requires-2 c κs = let s = c .before .before .before .before .before .before .before .before .before .before .before .before .before .before .before .before .before .before .before .before in stored-index (s .pre .0 .receivers) (receiver (c .before .before .before .before .before)) (omega (arith, c .before .wide4 .ensures .0, c .if2 .left))
-
-same-length-3 : tie.Need-same-length-3
-same-length-3 c = search needs
+list-at-requires-2 : tie.Need-list-at-requires-2
+list-at-requires-2 c κs =
+    let e : tie.After-list-at = search in
+    stored-index (start (stop (e .before)) .pre .0 .receivers) (receiver e) (omega arith)
 
 returns-3 : tie.Need-returns-3
-returns-3 c = let s = c .before .before .before .before .before .before .before .before .before .before .before .before .before .before .before .before .before .before .before .before .before in answer-held (s .pre .0) (now (s .args .next)) (s .pre .1 .1 .1) (s .pre .1 .1 .0 .1) (s .pre .1 .1 .0 .0) (c .before .before .before .before .before .before .before .before .before .before .advance .ensures .0) (listed (c .before .before .before .before .before .before .before)) (c .before .before .before .before .before .before .entry .ensures .0) (c .before .before .before .before .wide3 .ensures .0) (omega (arith, c .before .before .wide4 .ensures .0, c .before .if2 .left)) (c .entry2 .ensures .0)
+returns-3 c =
+    let w : tie.After-wide2 = search in
+    let e : tie.After-list-at = search in
+    let d = stop (e .before) in
+    let s = start d in
+    answer-held (s .pre .0) (s .args .next .now) (search) (search) (search) (d .advance .ensures .0) (listed (e .before)) (e .list-at .ensures .0)
+    (w .wide2 .ensures .0) (omega arith) (c .list-at2 .ensures .0)
 
 pub follower-spec : {M : Type 1} → statement M
 follower-spec =
     tie.close
     (tie.spec
-    mul-wide
-    slice-read-wide
-    wide-requires
+    (λ c. search needs)
+    (λ c. search needs)
+    (λ c κs. search needs)
     advance-requires
-    cast-next
-    mul-next
-    slice-write-next
-    mul-wide-2
-    shared-slice-read-wide
-    wide-requires-2
-    same-length
+    (λ c. search needs)
+    (λ c. search needs)
+    (λ c. search needs)
+    (λ c κs. let s : tie.Start = search in stored-row (s .pre .0 .proposers) (search))
+    (λ c. search needs)
     returns
-    entry-requires
-    mul-wide-3
-    shared-slice-read-wide-2
-    wide-requires-3
-    mul-wide-4
-    shared-slice-read-wide-3
-    wide-requires-4
-    same-length-2
+    (λ c κs. stored-index (start (stop c) .pre .0 .proposers) (search) (listed c))
+    (λ c. search needs)
+    (λ c. omega (arith, receiver (search)))
+    (λ c κs. search needs)
+    (λ c κs. let e : tie.After-list-at = search in stored-row (start (stop (e .before)) .pre .0 .receivers) (receiver e))
+    (λ c. search needs)
     returns-2
-    entry-requires-2
-    same-length-3
+    list-at-requires-2
+    (λ c. search needs)
     returns-3)

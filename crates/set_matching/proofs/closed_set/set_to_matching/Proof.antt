@@ -1,18 +1,22 @@
--- `set_to_matching` meets its contract: rules 15, 16 and 14 after the book's, and then the matching of the set. `read` says that
--- the book is well formed and the record is its own, `marks` that the code's test is rule 15, `long` that a set which passes it has one byte a
--- rotation, `closed` that the code's test is rule 16. Assumes nothing.
+-- `set_to_matching` meets its contract: rules 15, 16 and 14 after the book's, and then the matching of the set. `read`
+-- says that the book is well formed and the record is its own, `marks` that the code's test is rule 15, `long` that a
+-- set which passes it has one mark a rotation, `closed` that the code's test is rule 16. Assumes nothing.
 use Prim.Native.Nat.{ℕ}
-use mathlib.Core.Path.{_≡_, sym, _∙_, ap}
+use mathlib.Core.Path.{_≡_, refl, sym, _∙_, ap}
 use mathlib.Core.Bool.{true, false}
+use mathlib.Core.List.{List}
 use native.Mathlib.Omega.{arith}
 use lib.ListN.{length, length-replicate}
 use borrow.Author.Needs.{needs}
 use borrow.Author.Tests.{not-true, not-false}
 use Rattle.format.specs.Format.{people}
+use Rattle.format.specs.Check.{checkBook}
+use Rattle.format.specs.Record.{Record, recordOf, RecordIs, numberIf}
 use Rattle.format.specs.Verdict.{verdictOf}
 use Rattle.rotations.specs.RotationList.{rotationCount}
-use Rattle.rotation_numbering.specs.Laws.Numbers.{listRoom}
-use Rattle.rotation_list.specs.Laws.Replies.{Read, record-read, read-usable, verdict-refused}
+use Rattle.rotation_numbering.specs.Numbering.{listRoom}
+use Rattle.instances.specs.Laws.Read.{Read, record-read, read-usable}
+use Rattle.rotation_list.specs.Laws.Replies.{verdict-refused}
 use Rattle.rotation_list.specs.Laws.BookList.{book-numbered}
 use Rattle.precedence.specs.Laws.BookOrder.{book-readable}
 use Rattle.closed_subsets.specs.Laws.SetPlaces.{places-ready}
@@ -22,134 +26,191 @@ use Rattle.rotations.specs.Laws.SetVerdict.{set-book, set-marks, set-open, set-
 use Rattle.set_matching.proofs.closed_set.set_to_matching.Statement.{statement}
 use Rattle.set_matching.proofs.closed_set.set_to_matching.Tie as tie
 
-read : (c : tie.After-enum-told) → Read (c .before .before .before .before .before .before .args .book .now) (c .before .before .load .result .instance)
-read c = record-read (c .before .before .load .ensures) (ap verdictOf (c .enum-told .given .1))
+-- from each place to the one before it that the proof names
+abbrev start : tie.After-load → tie.Start
+start c = search
 
-marks : (c : tie.After-bad-marks) → badMarks (c .before .before .before .before .before .before .before .before .before .before .before .before .before .before .before .before .before .before .before .before .before .before .before .args .book .now) (c .before .before .before .before .before .before .before .before .before .before .before .before .before .before .before .before .before .before .before .before .before .before .before .args .set .now) ≡ c .bad-marks .result
-marks c = marks-test (c .before .before .before .before .before .before .before .before .before .before .before .before .before .before .before .before .before .before .before .before .before .before .before .args .book .now) (c .before .before .before .before .before .before .before .before .before .before .before .before .before .before .before .before .before .before .before .before .before .before .before .args .set .now) (book-numbered (read (c .before .before .before .before .before .before .before .before .before .before .before .before .before .before .before .before .before)) (c .before .before .number-all .ensures) .count) (c .bad-marks .ensures)
+abbrev loaded : tie.After-enum-told → tie.After-load
+loaded c = search
 
-good : (c : tie.Else1) → badMarks (c .before .before .before .before .before .before .before .before .before .before .before .before .before .before .before .before .before .before .before .before .before .before .before .before .args .book .now) (c .before .before .before .before .before .before .before .before .before .before .before .before .before .before .before .before .before .before .before .before .before .before .before .before .args .set .now) ≡ false
+abbrev fine : tie.After-number-all → tie.After-enum-told
+fine c = search
+
+abbrev numbered : tie.After-bad-marks → tie.After-number-all
+numbered c = search
+
+abbrev marked : tie.After-man-optimal-places → tie.Else1
+marked c = search
+
+abbrev best : tie.After-set-places → tie.After-man-optimal-places
+best c = search
+
+abbrev placed : tie.After-closes → tie.After-set-places
+placed c = search
+
+abbrev closing : tie.After-write-matching → tie.Else3
+closing c = search
+
+-- the book and the set
+abbrev book : tie.After-bad-marks → List ℕ
+book c = start (loaded (fine (numbered c))) .args .book .now
+
+abbrev set : tie.After-bad-marks → List ℕ
+set c = start (loaded (fine (numbered c))) .args .set .now
+
+abbrev tested : tie.After-closes → tie.After-bad-marks
+tested c = marked (best (placed c)) .before
+
+-- the record that was made
+abbrev made : tie.After-load → Record
+made c =
+    let l = c .load .last .1 in
+    recordOf (c .load .result .n) (l .0) (l .1 .0) (l .1 .1 .0) (l .1 .1 .1 .0)
+
+-- its tables, with their lengths
+tables : (c : tie.After-enum-told) → RecordIs (start (loaded c) .args .book .now) (numberIf (checkBook (start (loaded c) .args .book .now)) (people (start (loaded c) .args .book .now))) (made (loaded c))
+tables c = loaded c .load .ensures .tables
+
+read : (c : tie.After-enum-told) → Read (start (loaded c) .args .book .now) (made (loaded c))
+read c = record-read (loaded c .load .ensures) (ap verdictOf (c .enum-told .given .1))
+
+marks : (c : tie.After-bad-marks) → badMarks (book c) (set c) ≡ c .bad-marks .result
+marks c =
+    let n = numbered c in
+    marks-test (book c) (set c) (book-numbered (read (fine n)) (n .number-all .ensures) .count) (c .bad-marks .ensures)
+
+good : (c : tie.Else1) → badMarks (book (c .before)) (set (c .before)) ≡ false
 good c = marks (c .before) ∙ c .if1 .left
 
-long : (c : tie.Else1) → length (c .before .before .before .before .before .before .before .before .before .before .before .before .before .before .before .before .before .before .before .before .before .before .before .before .args .set .now) ≡ rotationCount (c .before .before .before .before .before .before .before .before .before .before .before .before .before .before .before .before .before .before .before .before .before .before .before .before .args .book .now)
-long c = marks-good (c .before .before .before .before .before .before .before .before .before .before .before .before .before .before .before .before .before .before .before .before .before .before .before .before .args .book .now) (c .before .before .before .before .before .before .before .before .before .before .before .before .before .before .before .before .before .before .before .before .before .before .before .before .args .set .now) (good c) .long
+long : (c : tie.Else1) → length (set (c .before)) ≡ rotationCount (book (c .before))
+long c = marks-good (book (c .before)) (set (c .before)) (good c) .long
 
-closed : (c : tie.After-closes) → closedSet (c .before .before .before .before .before .before .before .before .before .before .before .before .before .before .before .before .before .before .before .before .before .before .before .before .before .before .before .before .before .before .before .before .before .before .before .before .before .before .before .before .before .before .before .before .before .before .before .before .before .before .before .before .before .before .before .before .before .before .args .book .now) (c .before .before .before .before .before .before .before .before .before .before .before .before .before .before .before .before .before .before .before .before .before .before .before .before .before .before .before .before .before .before .before .before .before .before .before .before .before .before .before .before .before .before .before .before .before .before .before .before .before .before .before .before .before .before .before .before .before .before .args .set .now) ≡ c .closes .result
-closed c = set-closed (read (c .before .before .before .before .before .before .before .before .before .before .before .before .before .before .before .before .before .before .before .before .before .before .before .before .before .before .before .before .before .before .before .before .before .before .before .before .before .before .before .before .before .before .before .before .before .before .before .before .before .before .before .before)) (c .before .before .before .before .before .before .before .before .before .before .before .before .before .before .before .before .before .before .before .before .before .before .before .before .before .before .before .before .before .before .before .before .before .before .before .before .before .number-all .ensures) (c .before .before .before .before .before .before .before .before .before .before .before .before .before .before .before .before .before .before .before .before .before .before .man-optimal-places .ensures) (c .before .before .before .before .before .before .before .before .before .before .before .before .before .before .before .set-places .ensures) (long (c .before .before .before .before .before .before .before .before .before .before .before .before .before .before .before .before .before .before .before .before .before .before .before .before .before .before .before .before .before .before .before .before .before .before)) (c .closes .ensures)
+closed : (c : tie.After-closes) → closedSet (book (tested c)) (set (tested c)) ≡ c .closes .result
+closed c =
+    let p = placed c in
+    let b = best p in
+    let n = numbered (tested c) in
+    set-closed (read (fine n)) (n .number-all .ensures) (b .man-optimal-places .ensures) (p .set-places .ensures) (long (marked b)) (c .closes .ensures)
 
-open-not : (c : tie.Else2) → closedSet (c .before .before .before .before .before .before .before .before .before .before .before .before .before .before .before .before .before .before .before .before .before .before .before .before .before .before .before .before .before .before .before .before .before .before .before .before .before .before .before .before .before .before .before .before .before .before .before .before .before .before .before .before .before .before .before .before .before .before .before .args .book .now) (c .before .before .before .before .before .before .before .before .before .before .before .before .before .before .before .before .before .before .before .before .before .before .before .before .before .before .before .before .before .before .before .before .before .before .before .before .before .before .before .before .before .before .before .before .before .before .before .before .before .before .before .before .before .before .before .before .before .before .before .args .set .now) ≡ true
+open-not : (c : tie.Else2) → closedSet (book (tested (c .before))) (set (tested (c .before))) ≡ true
 open-not c = closed (c .before) ∙ not-false _ (c .if2 .left)
-
-load-requires : tie.Need-load-requires
-load-requires c κs = search needs
-
-enum-told : tie.Need-enum-told
-enum-told c = search needs
-
-enum-told-2 : tie.Need-enum-told-2
-enum-told-2 c = search needs
 
 returns : tie.Need-returns
 returns c =
-    let s = c .before .before .before .before .before .before .args in
+    let l : tie.After-load = search in
+    let s = start l .args in
     let e = ap verdictOf (c .enum-told2 .given .1) in
-    verdict-refused (set-book (s .book .now) (s .set .now) (length (s .out .now)) (sym (c .before .before .load .ensures .checked) ∙ e)) (people (s .book .now)) (setMatching (s .book .now) (s .set .now)) (s .out .now) e
-
-man-optimal-places-requires : tie.Need-man-optimal-places-requires
-man-optimal-places-requires c κs = let U = read-usable (read (c .before .before .before .before .before .before .before .before .before .before .before .before .before .before .before .before .before .before .before .before .before .before .before .before .before .before .before .before .before)) in (U .men, U .few)
-
-slice-aggregate-number-all : tie.Need-slice-aggregate-number-all
-slice-aggregate-number-all c = search needs
+    verdict-refused (set-book (s .book .now) (s .set .now) (length (s .out .now)) (sym (l .load .ensures .checked) ∙ e)) (people (s .book .now)) (setMatching (s .book .now) (s .set .now)) (s .out .now) e
 
 number-all-requires : tie.Need-number-all-requires
-number-all-requires c κs = (read-usable (read (c .before .before .before .before .before .before .before .before .before .before .before .before .before .before)), length-replicate {A = ℕ} listRoom 0)
-
-bad-marks-requires : tie.Need-bad-marks-requires
-bad-marks-requires c κs = search needs
-
-refuse-requires : tie.Need-refuse-requires
-refuse-requires c κs = search needs
+number-all-requires c κs = let t : tie.After-enum-told = search in (read-usable (read t), length-replicate {A = ℕ} listRoom 0)
 
 returns-2 : tie.Need-returns-2
 returns-2 c =
-    let s = c .before .before .before .before .before .before .before .before .before .before .before .before .before .before .before .before .before .before .before .before .before .before .before .before .before .args in
-    verdict-refused (set-marks (s .book .now) (s .set .now) (length (s .out .now)) (read (c .before .before .before .before .before .before .before .before .before .before .before .before .before .before .before .before .before .before .before) .fine) (marks (c .before .before) ∙ c .before .if1 .taken)) (people (s .book .now)) (setMatching (s .book .now) (s .set .now)) (s .out .now) (c .refuse .ensures)
+    let m : tie.After-bad-marks = search in
+    let t = fine (numbered m) in
+    let s = start (loaded t) .args in
+    verdict-refused (set-marks (s .book .now) (s .set .now) (length (s .out .now)) (read t .fine) (marks m ∙ c .before .if1 .taken)) (people (s .book .now)) (setMatching (s .book .now) (s .set .now)) (s .out .now) (c .refuse .ensures)
 
-slice-aggregate-set-places : tie.Need-slice-aggregate-set-places
-slice-aggregate-set-places c = sym (c .before .before .before .before .before .before .before .before .before .before .before .before .before .before .before .before .before .before .before .before .before .number-all .ensures .long)
+man-optimal-places-requires : tie.Need-man-optimal-places-requires
+man-optimal-places-requires c κs =
+    let e : tie.Else1 = search in
+    let U = read-usable (read (fine (numbered (e .before)))) in
+    (U .men, U .few)
 
 set-places-requires : tie.Need-set-places-requires
 set-places-requires c κs =
-    let U = read-usable (read (c .before .before .before .before .before .before .before .before .before .before .before .before .before .before .before .before .before .before .before .before .before .before .before .before .before .before .before .before .before .before .before .before .before .before .before .before)) in
-    let P = c .before .before .before .before .before .before .man-optimal-places .ensures in
-    (places-ready U P (rw (long (c .before .before .before .before .before .before .before .before .before .before .before .before .before .before .before .before .before .before)) (book-readable (read (c .before .before .before .before .before .before .before .before .before .before .before .before .before .before .before .before .before .before .before .before .before .before .before .before .before .before .before .before .before .before .before .before .before .before .before .before)) (c .before .before .before .before .before .before .before .before .before .before .before .before .before .before .before .before .before .before .before .before .before .number-all .ensures))), (U .few, P .men-long, P .women-long, P .men-past))
-
-slice-aggregate-closes : tie.Need-slice-aggregate-closes
-slice-aggregate-closes c = sym (c .before .before .before .before .before .before .before .before .before .before .before .before .before .before .before .before .before .before .before .before .before .before .before .before .before .before .before .before .before .before .before .before .before .before .before .before .number-all .ensures .long)
+    let b : tie.After-man-optimal-places = search in
+    let e = marked b in
+    let n = numbered (e .before) in
+    let R = read (fine n) in
+    let P = b .man-optimal-places .ensures in
+    (places-ready (read-usable R) P (rw (long e) (book-readable R (n .number-all .ensures))), (read-usable R .few, P .men-long, P .women-long, P .men-past))
 
 closes-requires : tie.Need-closes-requires
 closes-requires c κs =
-    let R = read (c .before .before .before .before .before .before .before .before .before .before .before .before .before .before .before .before .before .before .before .before .before .before .before .before .before .before .before .before .before .before .before .before .before .before .before .before .before .before .before .before .before .before .before .before .before .before .before .before .before .before .before) in
-    let N = c .before .before .before .before .before .before .before .before .before .before .before .before .before .before .before .before .before .before .before .before .before .before .before .before .before .before .before .before .before .before .before .before .before .before .before .before .number-all .ensures in
-    (read-usable R, ((set-within R N (c .before .before .before .before .before .before .before .before .before .before .before .before .before .before .before .before .before .before .before .before .before .man-optimal-places .ensures) (c .before .before .before .before .before .before .before .before .before .before .before .before .before .before .set-places .ensures) (long (c .before .before .before .before .before .before .before .before .before .before .before .before .before .before .before .before .before .before .before .before .before .before .before .before .before .before .before .before .before .before .before .before .before)), c .before .before .before .before .before .before .before .before .before .before .before .before .before .before .set-places .ensures .long), rw (long (c .before .before .before .before .before .before .before .before .before .before .before .before .before .before .before .before .before .before .before .before .before .before .before .before .before .before .before .before .before .before .before .before .before)) (book-readable R N)))
-
-refuse-requires-2 : tie.Need-refuse-requires-2
-refuse-requires-2 c κs = search needs
+    let p : tie.After-set-places = search in
+    let b = best p in
+    let e = marked b in
+    let n = numbered (e .before) in
+    let R = read (fine n) in
+    let N = n .number-all .ensures in
+    (read-usable R, ((set-within R N (b .man-optimal-places .ensures) (p .set-places .ensures) (long e), p .set-places .ensures .long), rw (long e) (book-readable R N)))
 
 returns-3 : tie.Need-returns-3
 returns-3 c =
-    let s = c .before .before .before .before .before .before .before .before .before .before .before .before .before .before .before .before .before .before .before .before .before .before .before .before .before .before .before .before .before .before .before .before .before .before .before .before .before .before .before .before .before .before .before .before .before .before .before .before .before .before .before .before .before .before .before .before .before .before .before .before .args in
-    verdict-refused (set-open (s .book .now) (s .set .now) (length (s .out .now)) (read (c .before .before .before .before .before .before .before .before .before .before .before .before .before .before .before .before .before .before .before .before .before .before .before .before .before .before .before .before .before .before .before .before .before .before .before .before .before .before .before .before .before .before .before .before .before .before .before .before .before .before .before .before .before .before) .fine) (good (c .before .before .before .before .before .before .before .before .before .before .before .before .before .before .before .before .before .before .before .before .before .before .before .before .before .before .before .before .before .before .before .before .before .before .before .before)) (closed (c .before .before) ∙ not-true _ (c .before .if2 .taken))) (people (s .book .now)) (setMatching (s .book .now) (s .set .now)) (s .out .now) (c .refuse2 .ensures)
-
-refuse-requires-3 : tie.Need-refuse-requires-3
-refuse-requires-3 c κs = search needs
+    let k : tie.After-closes = search in
+    let t = fine (numbered (tested k)) in
+    let s = start (loaded t) .args in
+    verdict-refused (set-open (s .book .now) (s .set .now) (length (s .out .now)) (read t .fine) (good (marked (best (placed k)))) (closed k ∙ not-true _ (c .before .if2 .taken))) (people (s .book .now)) (setMatching (s .book .now) (s .set .now)) (s .out .now) (c .refuse2 .ensures)
 
 returns-4 : tie.Need-returns-4
 returns-4 c =
-    let s = c .before .before .before .before .before .before .before .before .before .before .before .before .before .before .before .before .before .before .before .before .before .before .before .before .before .before .before .before .before .before .before .before .before .before .before .before .before .before .before .before .before .before .before .before .before .before .before .before .before .before .before .before .before .before .before .before .before .before .before .before .before .args in
-    let R = read (c .before .before .before .before .before .before .before .before .before .before .before .before .before .before .before .before .before .before .before .before .before .before .before .before .before .before .before .before .before .before .before .before .before .before .before .before .before .before .before .before .before .before .before .before .before .before .before .before .before .before .before .before .before .before .before) in
-    verdict-refused (set-short (s .book .now) (s .set .now) (length (s .out .now)) (R .fine) (good (c .before .before .before .before .before .before .before .before .before .before .before .before .before .before .before .before .before .before .before .before .before .before .before .before .before .before .before .before .before .before .before .before .before .before .before .before .before)) (open-not (c .before .before)) (omega (arith, R .tables .number, c .before .if3 .taken))) (people (s .book .now)) (setMatching (s .book .now) (s .set .now)) (s .out .now) (c .refuse3 .ensures)
-
-slice-aggregate-write-matching : tie.Need-slice-aggregate-write-matching
-slice-aggregate-write-matching c = search needs
+    let e : tie.Else2 = search in
+    let t = fine (numbered (tested (e .before))) in
+    let s = start (loaded t) .args in
+    let R = read t in
+    verdict-refused (set-short (s .book .now) (s .set .now) (length (s .out .now)) (R .fine) (good (marked (best (placed (e .before))))) (open-not e) (omega (arith, R .tables .number, c .before .if3 .taken))) (people (s .book .now)) (setMatching (s .book .now) (s .set .now)) (s .out .now) (c .refuse3 .ensures)
 
 write-matching-requires : tie.Need-write-matching-requires
 write-matching-requires c κs =
-    set-writable (read (c .before .before .before .before .before .before .before .before .before .before .before .before .before .before .before .before .before .before .before .before .before .before .before .before .before .before .before .before .before .before .before .before .before .before .before .before .before .before .before .before .before .before .before .before .before .before .before .before .before .before .before .before .before .before .before .before .before .before .before)) (c .before .before .before .before .before .before .before .before .before .before .before .before .before .before .before .before .before .before .before .before .before .before .before .before .before .before .before .before .before .before .before .before .before .before .before .before .before .before .before .before .before .before .before .before .number-all .ensures) (c .before .before .before .before .before .before .before .before .before .before .before .before .before .before .before .before .before .before .before .before .before .before .before .before .before .before .before .before .before .man-optimal-places .ensures) (c .before .before .before .before .before .before .before .before .before .before .before .before .before .before .before .before .before .before .before .before .before .before .set-places .ensures) (long (c .before .before .before .before .before .before .before .before .before .before .before .before .before .before .before .before .before .before .before .before .before .before .before .before .before .before .before .before .before .before .before .before .before .before .before .before .before .before .before .before .before)) (open-not (c .before .before .before .before .before .before)) (omega (arith, c .before .before .before .before .before .if3 .left))
-
-same-length : tie.Need-same-length
-same-length c = search needs
+    let w : tie.Else3 = search in
+    let e = w .before in
+    let p = placed (e .before) in
+    let b = best p in
+    let n = numbered (tested (e .before)) in
+    set-writable (read (fine n)) (n .number-all .ensures) (b .man-optimal-places .ensures) (p .set-places .ensures) (long (marked b)) (open-not e) (omega (arith, w .if3 .left))
 
 returns-5 : tie.Need-returns-5
 returns-5 c =
-    let s = c .before .before .before .before .before .before .before .before .before .before .before .before .before .before .before .before .before .before .before .before .before .before .before .before .before .before .before .before .before .before .before .before .before .before .before .before .before .before .before .before .before .before .before .before .before .before .before .before .before .before .before .before .before .before .before .before .before .before .before .before .before .before .before .before .before .before .before .before .args in
-    let R = read (c .before .before .before .before .before .before .before .before .before .before .before .before .before .before .before .before .before .before .before .before .before .before .before .before .before .before .before .before .before .before .before .before .before .before .before .before .before .before .before .before .before .before .before .before .before .before .before .before .before .before .before .before .before .before .before .before .before .before .before .before .before .before) in
-    let f = set-fine (s .book .now) (s .set .now) (length (s .out .now)) (R .fine) (good (c .before .before .before .before .before .before .before .before .before .before .before .before .before .before .before .before .before .before .before .before .before .before .before .before .before .before .before .before .before .before .before .before .before .before .before .before .before .before .before .before .before .before .before .before)) (open-not (c .before .before .before .before .before .before .before .before .before)) (omega (arith, R .tables .number, c .before .before .before .before .before .before .before .before .if3 .left)) in
-    (ap verdictOf (c .before .before .before .before .before .before .before .before .before .before .before .before .before .before .before .before .before .before .before .before .before .before .before .before .before .before .before .before .before .before .before .before .before .before .before .before .before .before .before .before .before .before .before .before .before .before .before .before .before .before .before .before .before .before .before .before .before .before .before .before .before .before .enum-told .given .1) ∙ sym f, set-filled R (c .before .before .before .before .before .before .before .before .before .before .before .before .before .before .before .before .before .before .before .before .before .before .before .before .before .before .before .before .before .before .before .before .before .before .before .before .before .before .before .before .before .before .before .before .before .before .before .number-all .ensures) (c .before .before .before .before .before .before .before .before .before .before .before .before .before .before .before .before .before .before .before .before .before .before .before .before .before .before .before .before .before .before .before .before .man-optimal-places .ensures) (c .before .before .before .before .before .before .before .before .before .before .before .before .before .before .before .before .before .before .before .before .before .before .before .before .before .set-places .ensures) (long (c .before .before .before .before .before .before .before .before .before .before .before .before .before .before .before .before .before .before .before .before .before .before .before .before .before .before .before .before .before .before .before .before .before .before .before .before .before .before .before .before .before .before .before .before)) (open-not (c .before .before .before .before .before .before .before .before .before)) f (s .out .now) _ (c .before .before .write-matching .ensures))
+    let d : tie.After-write-matching = search in
+    let w = closing d in
+    let e = w .before in
+    let p = placed (e .before) in
+    let b = best p in
+    let n = numbered (tested (e .before)) in
+    let s = start (loaded (fine n)) .args in
+    let R = read (fine n) in
+    let f = set-fine (s .book .now) (s .set .now) (length (s .out .now)) (R .fine) (good (marked b)) (open-not e) (omega (arith, R .tables .number, w .if3 .left)) in
+    (ap verdictOf (fine n .enum-told .given .1) ∙ sym f, set-filled R (n .number-all .ensures) (b .man-optimal-places .ensures) (p .set-places .ensures) (long (marked b)) (open-not e) f refl (s .out .now) _ (d .write-matching .ensures))
 
 pub set-to-matching-spec : {M : Type 1} → statement M
 set-to-matching-spec =
     tie.close
     (tie.spec
-    load-requires
-    enum-told
-    enum-told-2
+    (λ c κs. search needs)
+    (λ c. search needs)
+    (λ c. search needs)
     returns
-    slice-aggregate-number-all
+    (λ c. search needs)
+    (λ c. search needs)
+    (λ c. search needs)
+    (λ c. search needs)
+    (λ c. search needs)
     number-all-requires
-    bad-marks-requires
-    refuse-requires
+    (λ c κs. search needs)
+    (λ c κs. search needs)
     returns-2
+    (λ c. let e : tie.Else1 = search in sym (tables (fine (numbered (e .before))) .men .lists-long))
+    (λ c. let e : tie.Else1 = search in sym (tables (fine (numbered (e .before))) .women .lists-long))
+    (λ c. let e : tie.Else1 = search in sym (tables (fine (numbered (e .before))) .women .ranks-long))
     man-optimal-places-requires
-    slice-aggregate-set-places
+    (λ c. let b : tie.After-man-optimal-places = search in sym (tables (fine (numbered (marked b .before))) .men .ranks-long))
+    (λ c. let b : tie.After-man-optimal-places = search in sym (tables (fine (numbered (marked b .before))) .women .ranks-long))
+    (λ c. let b : tie.After-man-optimal-places = search in sym (numbered (marked b .before) .number-all .ensures .long))
     set-places-requires
-    slice-aggregate-closes
+    (λ c. let p : tie.After-set-places = search in sym (tables (fine (numbered (marked (best p) .before))) .men .lists-long))
+    (λ c. let p : tie.After-set-places = search in sym (tables (fine (numbered (marked (best p) .before))) .men .ranks-long))
+    (λ c. let p : tie.After-set-places = search in sym (tables (fine (numbered (marked (best p) .before))) .women .lists-long))
+    (λ c. let p : tie.After-set-places = search in sym (tables (fine (numbered (marked (best p) .before))) .women .ranks-long))
+    (λ c. let p : tie.After-set-places = search in sym (numbered (marked (best p) .before) .number-all .ensures .long))
     closes-requires
-    refuse-requires-2
+    (λ c κs. search needs)
     returns-3
-    refuse-requires-3
+    (λ c κs. search needs)
     returns-4
-    slice-aggregate-write-matching
+    (λ c. let w : tie.Else3 = search in sym (tables (fine (numbered (tested (w .before .before)))) .men .lists-long))
+    (λ c. search needs)
     write-matching-requires
-    same-length
+    (λ c. search needs)
     returns-5)

@@ -1,48 +1,45 @@
 -- `write_sheet` meets its contract: the sheet is built beside the buffer, and copied where it fits. Assumes nothing.
-use mathlib.Core.Path.{sym}
+use mathlib.Core.Path.{sym, _∙_, ap}
 use native.Mathlib.Omega.{arith}
+use lib.ListN.{length-take}
 use lib.Seq.{length-take-le}
 use borrow.Author.Needs.{needs}
+use Rattle.format.specs.Verdict.{Verdict}
+use Rattle.format.specs.Outcome.{after}
 use Rattle.sheet_text.specs.Laws.Put.{put-front}
 use Rattle.sheet_answers.specs.Laws.Short.{sheet-short}
 use Rattle.sheet_lines.specs.Laws.Reply.{sheet-refused, sheet-written}
 use Rattle.sheet_lines.proofs.sheet.write_sheet.Statement.{statement}
 use Rattle.sheet_lines.proofs.sheet.write_sheet.Tie as tie
 
-slice-aggregate-put-sheet : tie.Need-slice-aggregate-put-sheet
-slice-aggregate-put-sheet c = search needs
-
-put-sheet-requires : tie.Need-put-sheet-requires
-put-sheet-requires c κs = search needs
-
 returns : tie.Need-returns
-returns c = sheet-refused _ _ (c .before .before .put-sheet .ensures) (c .if1 .taken)
+returns c =
+    let p : tie.After-put-sheet = search in
+    let l : tie.Then1 = search in
+    sheet-refused _ _ (p .put-sheet .ensures) (l .if1 .taken)
+    (c .count-after .ensures ∙ ap (λ (v : Verdict). after v 0) (c .before .refuse .ensures))
 
 array-share-prefix-text : tie.Need-array-share-prefix-text
-array-share-prefix-text c = omega (arith, sheet-short (c .before .before .before .before .before .before .args .input .now))
-
-slice-aggregate-copy : tie.Need-slice-aggregate-copy
-slice-aggregate-copy c = sym (length-take-le _ _ (array-share-prefix-text (c .before)))
-
-copy-requires : tie.Need-copy-requires
-copy-requires c κs =
-    omega (arith, length-take-le (c .before .before .before .before .put-sheet .result) (c .before .before .before .before .put-sheet .last .1 .0) (array-share-prefix-text (c .before .before)))
-
-same-length : tie.Need-same-length
-same-length c = search needs
+array-share-prefix-text c = let s : tie.Start = search in omega (arith, sheet-short (s .args .input .now))
 
 returns-2 : tie.Need-returns-2
-returns-2 c = sheet-written _ _ (c .before .before .before .before .before .before .before .put-sheet .ensures) (c .before .before .before .before .before .if1 .left) (put-front (c .before .before .copy .ensures .0) (c .before .before .copy .ensures .1))
+returns-2 c =
+    let f : tie.After-copy = search in
+    let e : tie.Else1 = search in
+    let p : tie.After-put-sheet = search in
+    sheet-written _ _ (p .put-sheet .ensures) (e .if1 .left) (put-front (f .copy .ensures .0) (f .copy .ensures .1))
 
 pub write-sheet-spec : {M : Type 1} → statement M
 write-sheet-spec =
     tie.close
     (tie.spec
-    slice-aggregate-put-sheet
-    put-sheet-requires
+    (λ c. search needs)
+    (λ c κs. search needs)
+    (λ c κs. search needs)
+    (λ c κs. search needs)
     returns
     array-share-prefix-text
-    slice-aggregate-copy
-    copy-requires
-    same-length
+    (λ c. sym (length-take-le _ _ (array-share-prefix-text (c .before))))
+    (λ c κs. simp length-take (omega arith))
+    (λ c. search needs)
     returns-2)

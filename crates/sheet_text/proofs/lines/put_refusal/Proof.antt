@@ -6,23 +6,18 @@ use Rattle.sheet_text.specs.Laws.Lines.{refusal-length}
 use Rattle.sheet_text.proofs.lines.put_refusal.Statement.{statement}
 use Rattle.sheet_text.proofs.lines.put_refusal.Tie as tie
 
-slice-aggregate-copy : tie.Need-slice-aggregate-copy
-slice-aggregate-copy c = search needs
-
-copy-requires : tie.Need-copy-requires
-copy-requires c κs = omega (arith, refusal-length (c .before .before .before .args .number))
-
-put-field-requires : tie.Need-put-field-requires
-put-field-requires c κs = omega (arith, refusal-length (c .before .before .before .before .before .before .before .args .number))
-
-same-length : tie.Need-same-length
-same-length c = search needs
-
 returns : tie.Need-returns
 returns c =
-    put-refusal (c .before .before .before .before .before .before .before .before .before .before .args .number) (put-front (c .before .before .before .before .before .before .copy .ensures .0) (c .before .before .before .before .before .before .copy .ensures .1))
-    (c .before .before .put-field .ensures)
+    let f : tie.After-put-field = search in
+    let w : tie.After-copy = search in
+    put-refusal _ (put-front (w .copy .ensures .0) (w .copy .ensures .1)) (f .put-field .ensures)
 
 pub put-refusal-spec : {M : Type 1} → statement M
 put-refusal-spec =
-    tie.close (tie.spec slice-aggregate-copy copy-requires put-field-requires same-length returns)
+    tie.close
+    (tie.spec
+    (λ c. search needs)
+    (λ c κs. let s : tie.Start = search in omega (arith, refusal-length (s .args .number)))
+    (λ c κs. let s : tie.Start = search in omega (arith, refusal-length (s .args .number)))
+    (λ c. search needs)
+    returns)

@@ -7,27 +7,27 @@ use Rattle.sheet_text.proofs.lines.put_top.Statement.{statement}
 use Rattle.sheet_text.proofs.lines.put_top.Tie as tie
 
 put-field-requires : tie.Need-put-field-requires
-put-field-requires c κs = let a = c .before .before .args in omega (arith, top-length (a .n) (a .rotations) (a .grade))
+put-field-requires c κs = let s : tie.Start = search in let a = s .args in omega (arith, top-length (a .n) (a .rotations) (a .grade))
 
 put-field-requires-2 : tie.Need-put-field-requires-2
 put-field-requires-2 c κs =
-    let a = c .before .before .before .before .before .before .args in
+    let s : tie.Start = search in
+    let a = s .args in
     omega (arith, top-length (a .n) (a .rotations) (a .grade), number-length (a .n) 32)
 
 put-field-requires-3 : tie.Need-put-field-requires-3
 put-field-requires-3 c κs =
-    let a = c .before .before .before .before .before .before .before .before .before .before .args in
+    let s : tie.Start = search in
+    let a = s .args in
     omega (arith, top-length (a .n) (a .rotations) (a .grade), number-length (a .n) 32, number-length (a .rotations) 32)
-
-same-length : tie.Need-same-length
-same-length c = search needs
 
 returns : tie.Need-returns
 returns c =
-    let a = c .before .before .before .before .before .before .before .before .before .before .before .before .before .args in
-    put-top (a .n) (a .rotations) (a .grade) (omega arith) (c .before .before .before .before .before .before .before .before .before .before .put-field .ensures) (c .before .before .before .before .before .before .put-field2 .ensures) (c .before .before .put-field3 .ensures)
+    let g : tie.After-put-field3 = search in
+    let r : tie.After-put-field2 = search in
+    let n : tie.After-put-field = search in
+    put-top _ _ _ (omega arith) (n .put-field .ensures) (r .put-field2 .ensures) (g .put-field3 .ensures)
 
 pub put-top-spec : {M : Type 1} → statement M
 put-top-spec =
-    tie.close
-    (tie.spec put-field-requires put-field-requires-2 put-field-requires-3 same-length returns)
+    tie.close (tie.spec put-field-requires put-field-requires-2 put-field-requires-3 (λ c. search needs) returns)

@@ -5,17 +5,11 @@ use Rattle.sheet_text.specs.Laws.Put.{put-on}
 use Rattle.sheet_text.proofs.text.put_field.Statement.{statement}
 use Rattle.sheet_text.proofs.text.put_field.Tie as tie
 
-put-decimal-requires : tie.Need-put-decimal-requires
-put-decimal-requires c κs = search needs
-
-put-byte-requires : tie.Need-put-byte-requires
-put-byte-requires c κs = search needs
-
-same-length : tie.Need-same-length
-same-length c = search needs
-
 returns : tie.Need-returns
-returns c = put-on (c .before .before .before .before .before .before .put-decimal .ensures) (omega arith) (c .before .before .put-byte .ensures)
+returns c =
+    let b : tie.After-put-byte = search in
+    let d : tie.After-put-decimal = search in
+    put-on (d .put-decimal .ensures) (omega arith) (b .put-byte .ensures)
 
 pub put-field-spec : {M : Type 1} → statement M
-put-field-spec = tie.close (tie.spec put-decimal-requires put-byte-requires same-length returns)
+put-field-spec = tie.close (tie.spec (λ c κs. search needs) (λ c κs. search needs) (λ c. search needs) returns)

@@ -18,47 +18,22 @@ Inv-loop n lists k₀ k = FineLists n (given n lists) (λ k. n) (λ k. k * n) (2
 abbrev μ-loop : tie.MeasureT-loop
 μ-loop n lists k₀ k = 2 * n - k
 
-loop-holds : tie.Need-loop-holds Inv-loop μ-loop
-loop-holds c = lists-start
-
-mul-loop : tie.Need-mul-loop Inv-loop μ-loop
-mul-loop c = omega arith
-
-mul-at : tie.Need-mul-at Inv-loop μ-loop
-mul-at c = omega (arith, few-square (c .before .before .before .pre .few), list-end _ (c .loop-test .taken))
-
-bytes-at-requires : tie.Need-bytes-at-requires Inv-loop μ-loop
-bytes-at-requires c κs = given-end (c .before .before .before .pre) (c .loop-test .taken)
-
-check-list-requires : tie.Need-check-list-requires Inv-loop μ-loop
-check-list-requires c κs = omega (arith, few-square (c .before .before .before .before .pre .few), list-end _ (c .before .loop-test .taken))
-
-enum-told : tie.Need-enum-told Inv-loop μ-loop
-enum-told c = search needs
-
-enum-told-2 : tie.Need-enum-told-2 Inv-loop μ-loop
-enum-told-2 c = search needs
+abbrev start : tie.In-loop Inv-loop μ-loop → tie.Start Inv-loop μ-loop
+start c = search
 
 returns : tie.Need-returns Inv-loop μ-loop
 returns c =
-    lists-stop (c .before .before .before .before .before .loop .inv) (c .before .before .before .before .loop-test .taken)
-    (given-holds (c .before .before .before .before .before .before .before .pre) (c .before .before .before .before .loop-test .taken)
-    (c .before .before .before .bytes-at .ensures)) refl (c .before .before .check-list .ensures) (ap verdictOf (c .enum-told2 .given .1))
-
-add-k : tie.Need-add-k Inv-loop μ-loop
-add-k c = omega arith
-
-loop-less : tie.Need-loop-less Inv-loop μ-loop
-loop-less c = omega arith
+    let a : tie.After-bytes-at Inv-loop μ-loop = search in
+    let t : tie.In-loop Inv-loop μ-loop = search in
+    lists-stop (t .before .loop .inv) (t .loop-test .taken) (given-holds (start t .pre) (t .loop-test .taken) (a .bytes-at .ensures))
+    refl (c .before .before .check-list .ensures) (ap verdictOf (c .enum-told2 .given .1))
 
 loop-again : tie.Need-loop-again Inv-loop μ-loop
 loop-again c =
-    lists-on (c .before .before .before .before .before .loop .inv) (c .before .before .before .before .loop-test .taken)
-    (given-holds (c .before .before .before .before .before .before .before .pre) (c .before .before .before .before .loop-test .taken)
-    (c .before .before .before .bytes-at .ensures)) refl (c .before .before .check-list .ensures) (ap verdictOf (c .enum-told .given .1))
-
-returns-2 : tie.Need-returns-2 Inv-loop μ-loop
-returns-2 c = lists-end (c .before .loop .inv) (c .loop-test .left)
+    let a : tie.After-bytes-at Inv-loop μ-loop = search in
+    let t : tie.In-loop Inv-loop μ-loop = search in
+    lists-on (t .before .loop .inv) (t .loop-test .taken) (given-holds (start t .pre) (t .loop-test .taken) (a .bytes-at .ensures))
+    refl (c .before .before .check-list .ensures) (ap verdictOf (c .enum-told .given .1))
 
 pub check-given-spec : {M : Type 1} → statement M
 check-given-spec =
@@ -66,15 +41,15 @@ check-given-spec =
     (tie.spec
     Inv-loop
     μ-loop
-    loop-holds
-    mul-loop
-    mul-at
-    bytes-at-requires
-    check-list-requires
-    enum-told
-    enum-told-2
+    (λ c. lists-start)
+    (λ c. omega arith)
+    (λ c. omega (arith, few-square (start c .pre .few), list-end _ (c .loop-test .taken)))
+    (λ c κs. given-end (start c .pre) (c .loop-test .taken))
+    (λ c κs. omega (arith, few-square (start (c .before) .pre .few), list-end _ (c .before .loop-test .taken)))
+    (λ c. search needs)
+    (λ c. search needs)
     returns
-    add-k
-    loop-less
+    (λ c. omega arith)
+    (λ c. omega arith)
     loop-again
-    returns-2)
+    (λ c. lists-end (c .before .loop .inv) (c .loop-test .left)))

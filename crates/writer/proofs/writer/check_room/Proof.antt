@@ -12,7 +12,9 @@ refuse-requires : tie.Need-refuse-requires
 refuse-requires c κs = search needs
 
 returns : tie.Need-returns
-returns c = rw (c .refuse .ensures, ← c .before .before .size-of .ensures, lt-ltb (c .before .before .before .args .room) (c .before .before .size-of .result) (omega arith))
+returns c =
+    let begin : tie.Start = search in
+    rw (c .refuse .ensures, ← c .before .before .size-of .ensures, lt-ltb (begin .args .room) (c .before .before .size-of .result) (omega arith))
 
 returns-2 : tie.Need-returns-2
 returns-2 c = rw (← c .before .size-of .ensures, le-ltb (c .before .before .args .room) (c .before .size-of .result) (omega arith))

@@ -1,0 +1,60 @@
+-- The two extreme matchings as places of both sides, and a matching as entries from the places of the men. Assumes
+-- nothing.
+use Prim.Native.Nat.{ℕ, _≤_, _<_}
+use mathlib.Core.Path.{_≡_}
+use mathlib.Core.List.{List}
+use lib.ListN.{length}
+use Rattle.laws.specs.Values.{vec, values}
+use Rattle.stable_theory.specs.Stable.Market.{Market}
+use Rattle.stable_theory.specs.Stable.Vector.{Stable, Mirror}
+use Rattle.stable_theory.specs.Stable.Holding.{Same}
+use Rattle.stable_theory.specs.Least.Optimal.{proposer-optimal, receiver-optimal}
+use Rattle.tables.specs.Lists.{lenIn, atIn, Stored}
+use Rattle.format.specs.Format.{largest}
+use Rattle.matchings.specs.declared.places.Places.{Places}
+use Rattle.matchings.specs.BookMarket.{market}
+use Rattle.matchings.specs.Extreme.{matchingOf}
+use Rattle.extremes.specs.declared.optimal.Sides.{Sides}
+use Rattle.extremes.specs.declared.optimal.Proposers.{Proposers}
+use Rattle.extremes.specs.declared.optimal.Proposers.the-variants.{Men, Women}
+
+-- The extreme that is best for the side that proposes, as places of the men
+abbrev pub extremeOf : Proposers → Market → ℕ → ℕ
+extremeOf Men I = proposer-optimal I
+extremeOf Women I = receiver-optimal I
+
+-- and as the matching of a book
+abbrev pub extremeMatching : Proposers → List ℕ → List ℕ
+extremeMatching x b = matchingOf b (extremeOf x (market b))
+
+-- Both sides of the stable vector in which every one of n proposers is best off, and zeros past them
+pub record BestSides (I : Market) (n : ℕ) (s : Sides) : Type 0 where
+  pub best : Same I (vec (s .proposers)) (proposer-optimal I)
+  pub stable : Stable I (vec (s .proposers))
+  pub mirror : Mirror I (vec (s .proposers)) (vec (s .receivers))
+  pub proposers-past : (i : ℕ) → n ≤ i → vec (s .proposers) i ≡ 0
+  pub receivers-past : (w : ℕ) → n ≤ w → vec (s .receivers) w ≡ 0
+  pub proposers-long : length (s .proposers) ≡ largest
+  pub receivers-long : length (s .receivers) ≡ largest
+
+-- Both sides of the stable vector p of a market of n men and n women, and zeros past them
+pub record PlacesIn (n : ℕ) (I : Market) (p : ℕ → ℕ) (s : Places) : Type 0 where
+  pub same : Same I (vec (s .men)) p
+  pub stable : Stable I (vec (s .men))
+  pub mirror : Mirror I (vec (s .men)) (vec (s .women))
+  pub men-past : (i : ℕ) → n ≤ i → vec (s .men) i ≡ 0
+  pub women-past : (w : ℕ) → n ≤ w → vec (s .women) w ≡ 0
+  pub men-long : length (s .men) ≡ largest
+  pub women-long : length (s .women) ≡ largest
+
+-- The entries of a matching from the places p of n men: the woman at each one's place
+abbrev pub womenAt : ℕ → List ℕ → (ℕ → ℕ) → List ℕ
+womenAt n mlists p = values (λ i. atIn n mlists i (p i)) 0 n
+
+-- What the function that writes them needs: stored lists, everybody placed, numbers that are entries, and room
+pub record Writable (n : ℕ) (mlists places out : List ℕ) : Type 0 where
+  pub lists : Stored n n mlists
+  pub men : n ≤ length places
+  pub placed : {i : ℕ} → i < n → vec places i < lenIn n n mlists i
+  pub few : n ≤ largest
+  pub room : n ≤ length out

@@ -1,0 +1,23 @@
+// A matching as a row of entries, from the places of the men.
+use book::put_entry;
+use tables::list_at;
+use tables::wide;
+ghost use mathlib.Core.Path.{_≡_};
+ghost use mathlib.Core.List.{_++_};
+ghost use lib.ListN.{drop};
+ghost use Rattle.laws.specs.Moment.{now₀, now₁, vec₀};
+ghost use Rattle.extremes.specs.Places.{Writable, womenAt};
+
+// Writes the woman at the place of each of n men to the front of `out`.
+pub fn write_matching(n: usize, mlists: &[u16], places: &[u16], out: &mut [u8])
+    requires { ⌜ Writable n (now mlists) (now places) (now out) ⌝ }
+    ensures { λ _. ⌜ now₁ out ≡ womenAt n (now₀ mlists) (vec₀ places) ++ drop n (now₀ out) ⌝ }
+{
+    let mut i = 0;
+    while i < n {
+        let place = wide(places[i]);
+        let w = list_at(mlists, n, i, place);
+        put_entry(out, i, w);
+        i += 1;
+    }
+}

@@ -1,0 +1,73 @@
+-- `grade_in` meets its contract: what the check of the matching refuses, and else the largest cost over the record.
+-- `judged` says what the check made of a book and the matching, `passed` that the matching is stable. Assumes nothing.
+use mathlib.Core.Path.{_≡_, refl, sym, _∙_, ap}
+use native.Mathlib.Omega.{arith}
+use denote.Ref.{now}
+use borrow.Author.Needs.{needs}
+use Rattle.format.specs.Outcome.{after}
+use Rattle.format.specs.Laws.Outcome.{after-refused, after-fine}
+use Rattle.format.specs.Record.{Record, lent}
+use Rattle.format.specs.Verdict.{Verdict, fine, verdictOf}
+use Rattle.matchings.specs.Matching.{checkMatching}
+use Rattle.stability.specs.Judge.{EachBook}
+use Rattle.stability.specs.Laws.Judged.{BookJudged, book-judged}
+use Rattle.nearest.specs.Laws.Book.{judged-usable, judged-given, grade-book}
+use Rattle.grade.proofs.robustness.grade_in.Statement.{statement}
+use Rattle.grade.proofs.robustness.grade_in.Tie as tie
+
+-- from each place to the one before it that the proof names
+abbrev start : tie.After-judge → tie.Start
+start c = search
+
+abbrev stable : tie.After-enum-told → tie.After-judge
+stable c = search
+
+-- the record
+abbrev made : tie.Start → Record
+made s = let a = s .args in lent (a .n) (a .mlists) (a .mranks) (a .wlists) (a .wranks)
+
+judged :
+    (c : tie.After-judge) →
+    let s = start c in
+    EachBook (s .args .answer) (made s) (λ b. BookJudged b (now (s .args .matching)) (made s) (c .judge .result))
+judged c b B = book-judged B (c .judge .ensures)
+
+passed :
+    (c : tie.After-enum-told) →
+    let s = start (stable c) in
+    EachBook (s .args .answer) (made s) (λ b. checkMatching b (now (s .args .matching)) ≡ fine)
+passed c b B = sym (judged (stable c) b B .judged .checked) ∙ ap verdictOf (c .enum-told .given .1)
+
+returns : tie.Need-returns
+returns c =
+    let d : tie.After-judge = search in
+    let e = ap verdictOf (c .before .enum-told2 .given .1) in
+    λ b B. after-refused (sym (judged d b B .judged .checked) ∙ e) _ (c .ungraded .ensures ∙ ap (λ (v : Verdict). after v 0) e)
+
+answer-pairs-requires : tie.Need-answer-pairs-requires
+answer-pairs-requires c κs =
+    let t : tie.After-enum-told = search in
+    let B = start (stable t) .pre .recorded in
+    let J = judged (stable t) _ B in
+    let G = judged-given J (passed t _ B) in
+    ((judged-usable J (passed t _ B), G), omega (arith, G .few))
+
+returns-2 : tie.Need-returns-2
+returns-2 c =
+    let p : tie.After-answer-pairs = search in
+    let t : tie.After-enum-told = search in
+    λ b B. after-fine (passed t b B) (p .answer-pairs .ensures .largest-cost ∙ grade-book (judged (stable t) b B) (passed t b B)) refl
+
+pub grade-in-spec : {M : Type 1} → statement M
+grade-in-spec =
+    tie.close
+    (tie.spec
+    (λ c κs. search needs)
+    (λ c. search needs)
+    (λ c. search needs)
+    (λ c κs. search needs)
+    returns
+    (λ c. search needs)
+    (λ c. search needs)
+    answer-pairs-requires
+    returns-2)

@@ -1,0 +1,1 @@
+// The record of a book as a market: what functions that are lent its tables may assume. There are no functions here.

@@ -1,0 +1,84 @@
+-- `judge` meets its contract: each of the three checks refuses, or leaves what the next step asks. Assumes nothing.
+use mathlib.Core.Path.{_≡_, sym, _∙_, ap}
+use borrow.Author.Needs.{needs}
+use Rattle.format.specs.Verdict.{fine, verdictOf}
+use Rattle.matchings.specs.Matching.{checkNames}
+use Rattle.stability.specs.Laws.Judging.{judged-book, judged-names, judged-unstable, judged-stable, judge-placeable, judge-searchable, judge-on-lists}
+use Rattle.stability.proofs.judging.judge.Statement.{statement}
+use Rattle.stability.proofs.judging.judge.Tie as tie
+
+-- from each place to the one before it that the proof names
+abbrev begun : tie.After-enum-told3 → tie.After-enum-told
+begun c = search
+
+abbrev listed : tie.After-places-of → tie.After-enum-told3
+listed c = search
+
+-- the book's check found nothing
+book : (c : tie.After-enum-told) → let s : tie.Start = search in verdictOf (s .args .answer) ≡ fine
+book c = ap verdictOf (c .enum-told .given .1)
+
+-- nor did rules 8 and 9
+names : (c : tie.After-enum-told3) → let s : tie.Start = search in checkNames (s .args .n) (s .args .matching .now) ≡ fine
+names c =
+    let d : tie.After-check-names = search in
+    sym (d .check-names .ensures) ∙ ap verdictOf (c .enum-told3 .given .1)
+
+returns : tie.Need-returns
+returns c = λ b B. judged-book _ B (ap verdictOf (c .before .enum-told2 .given .1)) (c .unplaced .ensures)
+
+returns-2 : tie.Need-returns-2
+returns-2 c =
+    let d : tie.After-check-names = search in
+    let e : tie.After-enum-told = search in
+    λ b B. judged-names _ B (book e) (d .check-names .ensures) (ap verdictOf (c .before .enum-told4 .given .1)) (c .unplaced2 .ensures)
+
+places-of-requires : tie.Need-places-of-requires
+places-of-requires c κs = let s : tie.Start = search in judge-placeable _ (s .pre .recorded) (book (begun c)) (names c)
+
+check-stable-requires : tie.Need-check-stable-requires
+check-stable-requires c κs =
+    let s : tie.Start = search in
+    let p : tie.After-places-of = search in
+    let l = listed p in
+    let f = book (begun l) in (
+      judge-searchable _ (s .pre .recorded) f (names l) (p .places-of .ensures),
+      judge-on-lists _ (s .pre .recorded) f (names l) (p .places-of .ensures),
+    )
+
+returns-3 : tie.Need-returns-3
+returns-3 c =
+    let d : tie.After-check-stable = search in
+    let p : tie.After-places-of = search in
+    let l = listed p in
+    let e = ap verdictOf (c .before .enum-told6 .given .1) in
+    λ b B. judged-unstable _ B (book (begun l)) (names l) (p .places-of .ensures) _ (d .check-stable .ensures) e (c .unplaced3 .ensures)
+
+returns-4 : tie.Need-returns-4
+returns-4 c =
+    let d : tie.After-check-stable = search in
+    let p : tie.After-places-of = search in
+    let l = listed p in
+    let e = ap verdictOf (c .enum-told5 .given .1) in
+    λ b B. judged-stable _ B (book (begun l)) (names l) (p .places-of .ensures) _ (d .check-stable .ensures) e
+
+pub judge-spec : {M : Type 1} → statement M
+judge-spec =
+    tie.close
+    (tie.spec
+    (λ c. search needs)
+    (λ c. search needs)
+    (λ c κs. search needs)
+    returns
+    (λ c κs. search needs)
+    (λ c. search needs)
+    (λ c. search needs)
+    (λ c κs. search needs)
+    returns-2
+    places-of-requires
+    check-stable-requires
+    (λ c. search needs)
+    (λ c. search needs)
+    (λ c κs. search needs)
+    returns-3
+    returns-4)

@@ -1,0 +1,45 @@
+-- The steps of the loop that makes the places of a matching. Assumes nothing.
+use Prim.Native.Nat.{ℕ, _+_, _*_, _≤_, _<_}
+use mathlib.Core.Path.{_≡_, refl, _∙_, ap}
+use mathlib.Core.List.{List}
+use native.Mathlib.Omega.{arith}
+use lib.ListN.{length, set, replicate, length-replicate}
+use Rattle.laws.specs.FrontStores.{stores-front}
+use Rattle.laws.specs.Stores.{stores-start}
+use Rattle.laws.specs.Table.{cell, cell-lt}
+use Rattle.format.specs.Format.{largest}
+use Rattle.matchings.specs.Matching.{womanOf}
+use Rattle.stability.specs.Placing.{Placeable, Placed}
+
+-- no man has a place yet
+pub placed-start : {n : ℕ} {mranks wranks m : List ℕ} → Placed n mranks wranks m 0 (replicate largest 0) (replicate largest 0)
+placed-start = record { his = stores-start 0 _ _ _; hers = stores-start 0 _ _ _ }
+
+module _ {n : ℕ} {mranks wranks m : List ℕ} (A : Placeable n mranks wranks m) {k w : ℕ} (u : k < n) (e : w ≡ womanOf m k) where
+  -- the woman of man k, and the cells of the two in the tables
+  pub woman-lt : w < n
+  woman-lt = omega (arith, A .names .below u)
+
+  pub man-cell : k * n + w < length mranks
+  man-cell = omega (arith, A .men-ranked, cell-lt u woman-lt)
+
+  pub woman-cell : w * n + k < length wranks
+  woman-cell = omega (arith, A .women-ranked, cell-lt woman-lt u)
+
+  -- one man more
+  pub placed-on :
+      {men women : List ℕ} → Placed n mranks wranks m k men women → {x y : ℕ} → x ≡ cell mranks n k w → y ≡ cell wranks n w k →
+      Placed n mranks wranks m (k + 1) (set men k x) (set women w y)
+  placed-on F p q =
+      let room = length-replicate {A = ℕ} largest 0 in
+      record {
+        his = stores-front (F .his) refl (p ∙ ap (cell mranks n k) e) (omega (arith, A .few)) (λ j l z. omega arith);
+        hers = stores-front (F .hers) e (q ∙ ap (λ (v : ℕ). cell wranks n v k) e) (omega (arith, woman-lt, A .few))
+            (λ j l z. let v : j < n = omega arith in omega (arith, A .names .apart v u z));
+      }
+
+-- all men
+pub placed-end :
+    {n k : ℕ} {mranks wranks m men women : List ℕ} → Placed n mranks wranks m k men women → k ≤ n → n ≤ k →
+    Placed n mranks wranks m n men women
+placed-end {n} {k} F u v = let e : k ≡ n = omega arith in rw e at F

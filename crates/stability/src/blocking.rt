@@ -1,0 +1,81 @@
+// The search for a blocking pair, over the men's lists and the women's ranks: for man i only the women before his own
+// place can block, and a woman does where she ranks him above her own man.
+use format::Checked;
+use format::Refusal;
+use tables::entry;
+use tables::list_at;
+use tables::wide;
+ghost use mathlib.Core.Path.{_≡_};
+ghost use Prim.Native.Nat.{_≤_, _<_};
+ghost use Rattle.laws.specs.First.{first};
+ghost use Rattle.laws.specs.Moment.{now₀};
+ghost use Rattle.format.specs.Verdict.{verdictOf};
+ghost use Rattle.tables.specs.Lists.{lenIn};
+ghost use Rattle.stability.specs.Blocking.{willing, lowestWilling, checkTables, Searchable, OnLists};
+
+// The first of the places before `end` on man i's list at which a woman ranks him above her own man, or `end`.
+fn first_willing(
+    n: usize,
+    mlists: &[u16],
+    wranks: &[u16],
+    women: &[u16],
+    i: usize,
+    end: usize,
+) -> usize
+    requires { ⌜ Searchable n (now mlists) (now wranks) (now women) ⌝ }
+    requires { ⌜ (i < n) × (end ≤ lenIn n n (now mlists) i) ⌝ }
+    ensures { λ r. ⌜ r ≡ first (willing n (now₀ mlists) (now₀ wranks) (now₀ women) i) end ⌝ }
+{
+    let mut k = 0;
+    while k < end {
+        let w = list_at(mlists, n, i, k);
+        if entry(wranks, n, w, i) < wide(women[w]) {
+            return k;
+        }
+        k += 1;
+    }
+    k
+}
+
+// The lowest man for whom there is such a woman before his own place, or n.
+fn lowest_willing(n: usize, mlists: &[u16], wranks: &[u16], men: &[u16], women: &[u16]) -> usize
+    requires { ⌜ Searchable n (now mlists) (now wranks) (now women) ⌝ }
+    requires { ⌜ OnLists n (now mlists) (now men) ⌝ }
+    ensures { λ r. ⌜ r ≡ lowestWilling n (now₀ mlists) (now₀ wranks) (now₀ men) (now₀ women) ⌝ }
+{
+    let mut i = 0;
+    while i < n {
+        let end = wide(men[i]);
+        if first_willing(n, mlists, wranks, women, i, end) < end {
+            return i;
+        }
+        i += 1;
+    }
+    i
+}
+
+// Rule 10: that man, and the woman at the first such place.
+pub(crate) fn check_stable<'a>(
+    n: usize,
+    mlists: &[u16],
+    wranks: &[u16],
+    men: &'a [u16],
+    women: &'a [u16],
+) -> Checked
+    requires { ⌜ Searchable n (now mlists) (now wranks) (now women) ⌝ }
+    requires { ⌜ OnLists n (now mlists) (now men) ⌝ }
+    ensures { λ r. ⌜ verdictOf r ≡ checkTables n (now₀ mlists) (now₀ wranks) (now₀ men) (now₀ women) ⌝ }
+{
+    let i = lowest_willing(n, mlists, wranks, men, women);
+    if n <= i {
+        return Checked::Fine;
+    }
+    let end = wide(men[i]);
+    let stop = first_willing(n, mlists, wranks, women, i, end);
+    let w = list_at(mlists, n, i, stop);
+    Checked::Refused(Refusal {
+        number: 10,
+        place: i,
+        second: w,
+    })
+}

@@ -1,0 +1,72 @@
+// The check of a matching of a book: the book, then rules 8, 9 and 10.
+use crate::blocking::check_stable;
+use crate::names::check_names;
+use crate::placing::places_of;
+use format::Checked;
+use format::Instance;
+use matchings::Judged;
+use matchings::Places;
+use record::load;
+ghost use mathlib.Core.Path.{_≡_};
+ghost use Rattle.laws.specs.Moment.{now₀};
+ghost use Rattle.format.specs.Verdict.{verdictOf};
+ghost use Rattle.format.specs.Record.{Record, lent};
+ghost use Rattle.matchings.specs.Matching.{checkMatching};
+ghost use Rattle.stability.specs.Judge.{FromBook, Judges, Unplaced};
+
+// Says whether a matching of a book is stable, or the first rule that is broken and where.
+pub fn check(book: &[u8], matching: &[u8]) -> Checked
+    ensures { λ r. ⌜ verdictOf r ≡ checkMatching (now₀ book) (now₀ matching) ⌝ }
+{
+    let mut mlists = [0u16; Instance::LISTS];
+    let mut mranks = [0u16; Instance::RANKS];
+    let mut wlists = [0u16; Instance::LISTS];
+    let mut wranks = [0u16; Instance::RANKS];
+    let made = load(book, &mut mlists, &mut mranks, &mut wlists, &mut wranks);
+    let answer = made.checked;
+    let judged = judge(answer, made.n, &mlists, &mranks, &wlists, &wranks, matching);
+    judged.checked
+}
+
+// The same answer from what is made of the book, with the places of the matching: for each book of which that is made.
+pub fn judge(
+    answer: Checked,
+    n: usize,
+    mlists: &[u16],
+    mranks: &[u16],
+    wlists: &[u16],
+    wranks: &[u16],
+    matching: &[u8],
+) -> Judged
+    ghost { Record }
+    requires { λ R. ⌜ lent n mlists mranks wlists wranks ≡ R ⌝ }
+    requires { λ R. ⌜ FromBook answer R ⌝ }
+    ensures { λ R r. ⌜ Judges answer R (now₀ matching) r ⌝ }
+{
+    let Checked::Fine = answer else {
+        return unplaced(answer);
+    };
+    let listed = check_names(n, matching);
+    let Checked::Fine = listed else {
+        return unplaced(listed);
+    };
+    let places = places_of(n, mranks, wranks, matching);
+    let checked = check_stable(n, mlists, wranks, &places.men, &places.women);
+    let Checked::Fine = checked else {
+        return unplaced(checked);
+    };
+    Judged { checked, places }
+}
+
+// A refusal, with no places.
+fn unplaced(checked: Checked) -> Judged
+    ensures { λ r. ⌜ Unplaced checked r ⌝ }
+{
+    Judged {
+        checked,
+        places: Places {
+            men: [0u16; Instance::LARGEST],
+            women: [0u16; Instance::LARGEST],
+        },
+    }
+}

@@ -1,0 +1,24 @@
+// The places of a matching, read from the ranks of both sides.
+use book::entry_in;
+use format::Instance;
+use matchings::Places;
+use tables::entry;
+ghost use Rattle.laws.specs.Moment.{now₀};
+ghost use Rattle.stability.specs.Placing.{Placeable, Placed};
+
+// The place of each man's woman on his list, and of each woman's man on hers, and zeros past n.
+pub(crate) fn places_of(n: usize, mranks: &[u16], wranks: &[u16], matching: &[u8]) -> Places
+    requires { ⌜ Placeable n (now mranks) (now wranks) (now matching) ⌝ }
+    ensures { λ r. ⌜ Placed n (now₀ mranks) (now₀ wranks) (now₀ matching) n (r .men) (r .women) ⌝ }
+{
+    let mut men = [0u16; Instance::LARGEST];
+    let mut women = [0u16; Instance::LARGEST];
+    let mut i = 0;
+    while i < n {
+        let w = entry_in(matching, i);
+        men[i] = entry(mranks, n, i, w) as u16;
+        women[w] = entry(wranks, n, w, i) as u16;
+        i += 1;
+    }
+    Places { men, women }
+}

@@ -1,0 +1,49 @@
+"""The form of a case and of its line, as tests/make_cases.py documents it, and the replies of include/placement.h."""
+
+# The calls by number, in the order of include/placement.h
+(
+    CHECK_BOOK,
+    BOOK_SIZE,
+    WRITE_BOOK,
+    STUDENT_LIST,
+    MENTOR_LIST,
+    CHECK_MATCHING,
+    STUDENT_BEST,
+    MENTOR_BEST,
+    REPAIR,
+    GRADE,
+    ROTATIONS,
+    PRECEDES,
+    SET_TO_MATCHING,
+    MATCHING_TO_SET,
+    SHEET,
+) = range(15)
+
+
+def fine(value, place=0):
+    """The reply where nothing is refused."""
+    return [0, place, 0, 0, value]
+
+
+def moved(letter, distance):
+    """The reply of a repair."""
+    return [0, 0, 0, ord(letter), distance]
+
+
+def refused(number, place=0, second=0):
+    """The reply where a rule is broken."""
+    return [number, place, second, 0, 0]
+
+
+def two_bytes(number):
+    return [number % 256, number // 256]
+
+
+def case(call, reply, *parts, numbers=(0, 0), room=0, out=(), gains_room=0, gains=()):
+    """The bytes of a case and its line. A buffer holds what is written to it, and past that what it held before."""
+    parts = [*parts, [], [], []][:3]
+    header = [*numbers, room, gains_room, *map(len, parts)]
+    given = [call] + [byte for number in header for byte in two_bytes(number)] + sum(parts, [])
+    out = [*out] + [255] * (room - len(out))
+    gains = [*gains] + [100] * (gains_room - len(gains))
+    return bytes(given), " ".join(map(str, [*reply, ":", *out, ":", *gains]))
