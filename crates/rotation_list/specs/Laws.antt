@@ -1,3 +1,4 @@
--- From the numbers of the run to the reply and the bytes. Assumes nothing.
-pub mod Replies
+-- Laws of the list of rotations and of their number. Assumes nothing.
 pub mod BookList
+pub mod Replies
+pub mod Counting

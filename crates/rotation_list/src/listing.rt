@@ -14,10 +14,7 @@ ghost use mathlib.Core.List.{_++_};
 ghost use Prim.Native.Nat.{ℕ, _≤_, _<_};
 ghost use lib.ListN.{length, take, drop};
 ghost use Rattle.laws.specs.Moment.{now₀, now₁};
-ghost use Rattle.format.specs.Record.{Record, lent};
-ghost use Rattle.instances.specs.Usable.{Usable, marketIn};
 ghost use Rattle.laws.specs.Values.{vec};
-ghost use Rattle.stable_theory.specs.Rotations.Numbering.{total};
 ghost use Rattle.format.specs.Outcome.{countOutcome};
 ghost use Rattle.format.specs.Format.{largest};
 ghost use Rattle.rotations.specs.RotationList.{listReply, listBuffer};
@@ -46,24 +43,6 @@ pub fn list(book: &[u8], out: &mut [u8]) -> Counted
     }
     copy(&numbers, end, out);
     Counted::Count(extent.count)
-}
-
-// How many rotations the market of a record has, whose tables are lent.
-pub fn count<'a>(
-    n: usize,
-    mlists: &'a [u16],
-    mranks: &'a [u16],
-    wlists: &'a [u16],
-    wranks: &'a [u16],
-) -> usize
-    ghost { Record }
-    requires { λ R. ⌜ lent n mlists mranks wlists wranks ≡ R ⌝ }
-    requires { λ R. ⌜ Usable R ⌝ }
-    ensures { λ R r. ⌜ r ≡ total (marketIn R) ⌝ }
-{
-    let mut numbers = [0u16; ROOM];
-    let extent = number_all(n, mlists, mranks, wlists, wranks, &mut numbers[..]);
-    extent.count
 }
 
 // Writes the first `end` numbers as entries to the front of `out`.
