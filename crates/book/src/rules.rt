@@ -14,7 +14,7 @@ ghost use Rattle.laws.specs.Moment.{now₀};
 ghost use Rattle.format.specs.Verdict.{verdictOf};
 ghost use Rattle.format.specs.Format.{offset, listLength, entry};
 ghost use Rattle.format.specs.Lists.{checkLists};
-ghost use Rattle.format.specs.Check.{firstWrongPair, checkBook, Sized, RightPairs};
+ghost use Rattle.format.specs.Check.{firstWrongPair, checkBook, RightSize, RightPairs};
 
 // Says whether a book is well formed, or the first rule that it breaks and where.
 pub fn check(book: &[u8]) -> Checked
@@ -48,7 +48,7 @@ pub fn check(book: &[u8]) -> Checked
 // The first directory pair that is not as it has to be, or 2 * n: a list starts where the one before ended and has n
 // entries.
 fn first_wrong_pair(book: &[u8], n: usize) -> usize
-    requires { ⌜ Sized (now book) n ⌝ }
+    requires { ⌜ RightSize (now book) n ⌝ }
     ensures { λ r. ⌜ r ≡ firstWrongPair (now₀ book) ⌝ }
 {
     let mut due = 2 + 8 * n;

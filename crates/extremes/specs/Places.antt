@@ -52,7 +52,7 @@ abbrev pub womenAt : ℕ → List ℕ → (ℕ → ℕ) → List ℕ
 womenAt n mlists p = values (λ i. atIn n mlists i (p i)) 0 n
 
 -- What the function that writes them needs: stored lists, everybody placed, numbers that are entries, and room
-pub record Writable (n : ℕ) (mlists places out : List ℕ) : Type 0 where
+pub record MatchingWritable (n : ℕ) (mlists places out : List ℕ) : Type 0 where
   pub lists : Stored n n mlists
   pub men : n ≤ length places
   pub placed : {i : ℕ} → i < n → vec places i < lenIn n n mlists i

@@ -6,11 +6,11 @@ ghost use mathlib.Core.Path.{_≡_};
 ghost use mathlib.Core.List.{_++_};
 ghost use lib.ListN.{drop};
 ghost use Rattle.laws.specs.Moment.{now₀, now₁, vec₀};
-ghost use Rattle.extremes.specs.Places.{Writable, womenAt};
+ghost use Rattle.extremes.specs.Places.{MatchingWritable, womenAt};
 
 // Writes the woman at the place of each of n men to the front of `out`.
 pub fn write_matching(n: usize, mlists: &[u16], places: &[u16], out: &mut [u8])
-    requires { ⌜ Writable n (now mlists) (now places) (now out) ⌝ }
+    requires { ⌜ MatchingWritable n (now mlists) (now places) (now out) ⌝ }
     ensures { λ _. ⌜ now₁ out ≡ womenAt n (now₀ mlists) (vec₀ places) ++ drop n (now₀ out) ⌝ }
 {
     let mut i = 0;

@@ -31,14 +31,14 @@ checkBook b =
     (checkLists (people b) (entry b) (listLength b) (offset b) (2 * people b)))))))
 
 -- What is known of a book once rules 1 to 4 are passed
-pub record Sized (b : List ℕ) (n : ℕ) : Type 0 where
+pub record RightSize (b : List ℕ) (n : ℕ) : Type 0 where
   pub number : n ≡ people b
   pub few : n ≤ largest
   pub long : length b ≡ size n
 
 -- and once rule 5 is passed too
 pub record RightPairs (b : List ℕ) (n : ℕ) : Type 0 where
-  pub sized : Sized b n
+  pub sized : RightSize b n
   pub pairs : firstWrongPair b ≡ 2 * n
 
 -- What is known of list k then: it and its directory pair lie within the book

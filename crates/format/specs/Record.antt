@@ -70,7 +70,7 @@ pub record Cleared (lists ranks : List ℕ) : Type 0 where
 
 -- What the function that fills one row of both tables needs: entries of the list l that are different numbers below its
 -- length, and room in the two tables from index `at` on
-pub record Row (l : List ℕ) (at : ℕ) (lists ranks : List ℕ) : Type 0 where
+pub record RowSource (l : List ℕ) (at : ℕ) (lists ranks : List ℕ) : Type 0 where
   pub names : Into (length l) (length l) (byte l)
   pub few : length l ≤ largest
   pub room : at + length l ≤ length lists
@@ -85,6 +85,6 @@ pub record Source (b : List ℕ) (n : ℕ) : Type 0 where
   pub few : n ≤ largest
 
 -- and where the lists of a side begin
-pub record Side (b : List ℕ) (n from : ℕ) : Type 0 where
+pub record SideSource (b : List ℕ) (n from : ℕ) : Type 0 where
   pub source : Source b n
   pub start : from ≤ n

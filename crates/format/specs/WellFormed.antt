@@ -13,7 +13,7 @@ use Rattle.laws.specs.First.{some-false}
 use Rattle.laws.specs.Onto.{Into}
 use Rattle.format.specs.Verdict.{fine}
 use Rattle.format.specs.Format.{largest, byte, people, offset, listLength, listsStart, due, entry, size}
-use Rattle.format.specs.Check.{rightPair, firstWrongPair, checkBook, Sized}
+use Rattle.format.specs.Check.{rightPair, firstWrongPair, checkBook, RightSize}
 use Rattle.format.specs.Laws.Faults.{lists-into}
 use Rattle.format.specs.Laws.Stages.{Opened, check-right-pairs, fine-passed}
 use Rattle.format.specs.Laws.Directory.{offset-at, length-at}
@@ -54,7 +54,7 @@ fine-well-formed b = (passed, nothing-refused)
     opened : WellFormed b → Opened b (people b)
     opened W = record { long = omega (arith, W .long); edition = W .edition; number = refl; few = W .few }
 
-    fits : WellFormed b → Sized b (people b)
+    fits : WellFormed b → RightSize b (people b)
     fits W = record { number = refl; few = W .few; long = W .long }
 
     -- each list is due where it starts, so no directory pair is wrong

@@ -11,7 +11,7 @@ ghost use Rattle.laws.specs.Stores.{Stores};
 ghost use Rattle.format.specs.Verdict.{verdictOf};
 ghost use Rattle.format.specs.Format.{byte, people};
 ghost use Rattle.format.specs.Check.{checkBook};
-ghost use Rattle.format.specs.Record.{numberIf, recordOf, Cleared, Recorded, Side, SideTables, Row};
+ghost use Rattle.format.specs.Record.{numberIf, recordOf, Cleared, Recorded, SideSource, SideTables, RowSource};
 
 // Makes the record of a book in the lent tables, which hold zeros: of one that is refused n is 0, and the tables stay
 // zeros.
@@ -52,7 +52,7 @@ fn fill_side(
     lists: &mut [u16; Instance::LISTS],
     ranks: &mut [u16; Instance::RANKS],
 )
-    requires { ⌜ Side (now book) n from ⌝ }
+    requires { ⌜ SideSource (now book) n from ⌝ }
     requires { ⌜ SideTables (now book) n from 0 (now lists) (now ranks) ⌝ }
     ensures { λ _. ⌜ SideTables (now₀ book) n from n (now₁ lists) (now₁ ranks) ⌝ }
 {
@@ -73,7 +73,7 @@ fn fill_row(
     lists: &mut [u16; Instance::LISTS],
     ranks: &mut [u16; Instance::RANKS],
 )
-    requires { ⌜ Row (now list) at (now lists) (now ranks) ⌝ }
+    requires { ⌜ RowSource (now list) at (now lists) (now ranks) ⌝ }
     ensures entries { λ _. ⌜ Stores at (length (now₀ list)) (λ j. j) (byte (now₀ list)) (now₀ lists) (now₁ lists) ⌝ }
     ensures places { λ _. ⌜ Stores at (length (now₀ list)) (byte (now₀ list)) (λ j. j) (now₀ ranks) (now₁ ranks) ⌝ }
 {

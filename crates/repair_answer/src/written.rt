@@ -12,7 +12,7 @@ ghost use lib.ListN.{length};
 ghost use Rattle.laws.specs.Moment.{now₀, now₁};
 ghost use Rattle.laws.specs.Values.{vec};
 ghost use Rattle.format.specs.Outcome.{gives};
-ghost use Rattle.extremes.specs.Places.{Writable, womenAt};
+ghost use Rattle.extremes.specs.Places.{MatchingWritable, womenAt};
 ghost use Rattle.repairs.specs.Repair.{repairOutcome};
 ghost use Rattle.repair_answer.specs.Shown.{Small, gainsAt, shownAnswer, shownIn};
 
@@ -26,7 +26,7 @@ pub fn answer(
     out: &mut [u8],
     gains: &mut [i8],
 ) -> Answer
-    requires { ⌜ Writable n (now mlists) (found .men) (now out) ⌝ }
+    requires { ⌜ MatchingWritable n (now mlists) (found .men) (now out) ⌝ }
     requires { ⌜ Small n men × (n ≤ length (now gains)) ⌝ }
     ensures reply { λ r. ⌜ repairOutcome r ≡ gives (shownAnswer (found .letter) (found .distance)) ⌝ }
     ensures bytes { λ _. ⌜ now₁ out ≡ shownIn (found .letter) n (womenAt n (now₀ mlists) (vec (found .men))) (now₀ out) ⌝ }

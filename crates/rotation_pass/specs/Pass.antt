@@ -44,7 +44,7 @@ slices₁ p t held due on frames down up =
     slices (p .exit) (t .exit) (held .exit) (due .exit) (on .exit) (frames .exit) (down .exit) (up .exit)
 
 -- A number for each man or woman, and four for each man on the path
-pub record Sized (n : ℕ) (W : Slices) : Type 0 where
+pub record SlicesSized (n : ℕ) (W : Slices) : Type 0 where
   pub p : length (W .p) ≡ n
   pub t : length (W .t) ≡ n
   pub held : length (W .held) ≡ n

@@ -48,7 +48,7 @@ pub record Closes (I : Market) (p : ℕ → ℕ) (frames : ℕ → ℕ) (low c :
   pub back : {x : ℕ} → suc x ≡ c → Frame I p frames x (manAt frames low)
 
 -- A next woman is written into frame x; below it nothing changes, nor does its man
-pub record Kept (x k w r : ℕ) (before after : ℕ → ℕ) : Type 0 where
+pub record FrameKept (x k w r : ℕ) (before after : ℕ → ℕ) : Type 0 where
   pub place : placeAt after x ≡ k
   pub woman : womanAt after x ≡ w
   pub rank : rankAt after x ≡ r

@@ -11,7 +11,7 @@ use Rattle.stable_theory.specs.Least.Optimal.{receiver-optimal}
 use Rattle.stable_theory.specs.Rotations.Numbering.{total, rotation}
 use Rattle.stable_theory.specs.Rotations.PassedCount.{passedCount}
 use Rattle.rotation_pass.specs.declared.frames.Spot.{Spot}
-use Rattle.rotation_pass.specs.Pass.{Slices, Sized}
+use Rattle.rotation_pass.specs.Pass.{Slices, SlicesSized}
 use Rattle.rotation_pass.specs.Path.{manAt, placeAt, womanAt, rankAt, Path, Top}
 use Rattle.rotation_pass.specs.Shares.{Shares}
 
@@ -28,7 +28,7 @@ pub record NotesHolder (place end s w : ℕ) (held held′ : ℕ → ℕ) : Type
 
 -- The state of a pass: `found` rotations are eliminated, and c men are on the path
 pub record Passing (I : Market) (g : ℕ → ℕ) (W : Slices) (c found : ℕ) : Type 0 where
-  pub sized : Sized (I .proposers .size) W
+  pub sized : SlicesSized (I .proposers .size) W
   pub stands : Stands I (vec (W .p)) (vec (W .t)) (vec (W .held))
   pub shares : Shares I g (vec (W .p)) (vec (W .due)) (vec (W .down)) (vec (W .up))
   pub path : Path I (vec (W .p)) (vec (W .frames)) (vec (W .on)) c

@@ -8,7 +8,7 @@ ghost use lib.ListN.{length};
 ghost use Rattle.laws.specs.Moment.{now₀, vec₀, vec₁};
 ghost use Rattle.laws.specs.Values.{vec};
 ghost use Rattle.tables.specs.Lists.{Tables, tables, market, Sound, Stored, lenIn, atIn};
-ghost use Rattle.rotation_pass.specs.Pass.{Start, slices, Sized};
+ghost use Rattle.rotation_pass.specs.Pass.{Start, slices, SlicesSized};
 ghost use Rattle.rotation_pass.specs.Shares.{Shares};
 ghost use Rattle.rotation_pass.specs.Walks.{Stands, NotesHolder};
 
@@ -45,7 +45,7 @@ pub(crate) fn begin(
     ghost { Tables }
     requires { λ K. ⌜ tables n n mlists wlists wranks ≡ K ⌝ }
     requires { λ K. ⌜ Sound K × (n < 65536) ⌝ }
-    requires { λ _. ⌜ Sized n (slices p t held due on frames down up) × (n ≤ length (now given)) × (n ≤ length (now ends)) ⌝ }
+    requires { λ _. ⌜ SlicesSized n (slices p t held due on frames down up) × (n ≤ length (now given)) × (n ≤ length (now ends)) ⌝ }
     requires { λ K. ⌜ Start (market K) (vec (now p)) (vec (now t)) (vec (now given)) (vec (now ends)) ⌝ }
     ensures { λ K _. ⌜ Stands (market K) (vec₀ p) (vec₀ t) (vec₁ held) ⌝ }
     ensures { λ K _. ⌜ Shares (market K) (vec₀ given) (vec₀ p) (vec₁ due) (vec₁ down) (vec₁ up) ⌝ }

@@ -11,7 +11,7 @@ ghost use lib.ListN.{length};
 ghost use Rattle.laws.specs.Moment.{vec₀, vec₁};
 ghost use Rattle.laws.specs.Values.{vec};
 ghost use Rattle.tables.specs.Lists.{Tables, tables, market, Sound};
-ghost use Rattle.rotation_pass.specs.Pass.{slices, Sized};
+ghost use Rattle.rotation_pass.specs.Pass.{slices, SlicesSized};
 ghost use Rattle.rotation_pass.specs.Path.{Path, Closes};
 ghost use Rattle.rotation_pass.specs.Shares.{Shares, Named, Noted};
 ghost use Rattle.rotation_pass.specs.Walks.{Stands, Eliminated};
@@ -88,7 +88,7 @@ pub(crate) fn eliminate(
     ghost { Tables }
     requires { λ K. ⌜ tables n n mlists wlists wranks ≡ K ⌝ }
     requires { λ K. ⌜ Sound K × (n < 65536) ⌝ }
-    requires { λ _. ⌜ Sized n (slices p t held due on frames down up) ⌝ }
+    requires { λ _. ⌜ SlicesSized n (slices p t held due on frames down up) ⌝ }
     requires { λ K. ⌜ Stands (market K) (vec (now p)) (vec (now t)) (vec (now held)) ⌝ }
     requires { λ K. ⌜ Path (market K) (vec (now p)) (vec (now frames)) (vec (now on)) depth ⌝ }
     requires { λ K. ⌜ Closes (market K) (vec (now p)) (vec (now frames)) low depth ⌝ }

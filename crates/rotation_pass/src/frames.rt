@@ -6,7 +6,7 @@ ghost use mathlib.Core.Path.{_≡_};
 ghost use Prim.Native.Nat.{_+_, _*_, _≤_, _<_};
 ghost use lib.ListN.{length};
 ghost use Rattle.laws.specs.Moment.{vec₀, vec₁};
-ghost use Rattle.rotation_pass.specs.Path.{Kept, Entered, Resumes};
+ghost use Rattle.rotation_pass.specs.Path.{FrameKept, Entered, Resumes};
 
 // Where a walk stands: how many men are on its path, the last of them, the place from which his next woman is looked
 // for, and how many rotations are eliminated.
@@ -21,7 +21,7 @@ pub(crate) struct Spot {
 pub(crate) fn keep(frames: &mut [u16], x: usize, next: NextWoman)
     requires { ⌜ x * 4 + 3 < length (now frames) ⌝ }
     requires { ⌜ (next .place < 65536) × (next .woman < 65536) × (next .rank < 65536) ⌝ }
-    ensures { λ _. ⌜ Kept x (next .place) (next .woman) (next .rank) (vec₀ frames) (vec₁ frames) ⌝ }
+    ensures { λ _. ⌜ FrameKept x (next .place) (next .woman) (next .rank) (vec₀ frames) (vec₁ frames) ⌝ }
 {
     frames[x * 4 + 1] = next.place as u16;
     frames[x * 4 + 2] = next.woman as u16;

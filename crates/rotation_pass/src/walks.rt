@@ -16,7 +16,7 @@ ghost use Rattle.stable_theory.specs.Rotations.Numbering.{total};
 ghost use Rattle.stable_theory.specs.Repairs.Repair.{IsDown, IsUp};
 ghost use Rattle.tables.specs.Lists.{Tables, tables, market, Sound};
 ghost use Rattle.rotation_pass.specs.Groups.{Grouped};
-ghost use Rattle.rotation_pass.specs.Pass.{Start, slices, slices₁, Sized};
+ghost use Rattle.rotation_pass.specs.Pass.{Start, slices, slices₁, SlicesSized};
 ghost use Rattle.rotation_pass.specs.Walks.{Passing, Moved};
 
 // A walk from man `start` until its path is empty. The answer is how many rotations are eliminated.
@@ -143,7 +143,7 @@ pub fn pass<'a>(
     ghost { Tables }
     requires { λ K. ⌜ tables n n mlists wlists wranks ≡ K ⌝ }
     requires { λ K. ⌜ Sound K × (n < 65536) ⌝ }
-    requires { λ _. ⌜ Sized n (slices p t held due on frames down up) ⌝ }
+    requires { λ _. ⌜ SlicesSized n (slices p t held due on frames down up) ⌝ }
     requires { λ _. ⌜ (n ≤ length (now given)) × (n ≤ length (now ends)) ⌝ }
     requires { λ K. ⌜ Start (market K) (vec (now p)) (vec (now t)) (vec (now given)) (vec (now ends)) ⌝ }
     ensures { λ K r. ⌜ r ≡ total (market K) ⌝ }

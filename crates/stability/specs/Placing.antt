@@ -17,6 +17,6 @@ pub record Placeable (n : ℕ) (mranks wranks m : List ℕ) : Type 0 where
   pub women-ranked : n * n ≤ length wranks
 
 -- What it has made of the first k men: man i has the rank of his woman, and she has his, and all else is 0
-pub record Placed (n : ℕ) (mranks wranks m : List ℕ) (k : ℕ) (men women : List ℕ) : Type 0 where
+pub record PlacesStored (n : ℕ) (mranks wranks m : List ℕ) (k : ℕ) (men women : List ℕ) : Type 0 where
   pub his : Stores 0 k (λ i. i) (λ i. cell mranks n i (womanOf m i)) (replicate largest 0) men
   pub hers : Stores 0 k (womanOf m) (λ i. cell wranks n (womanOf m i) i) (replicate largest 0) women

@@ -4,12 +4,12 @@ use format::Instance;
 use matchings::Places;
 use tables::entry;
 ghost use Rattle.laws.specs.Moment.{now₀};
-ghost use Rattle.stability.specs.Placing.{Placeable, Placed};
+ghost use Rattle.stability.specs.Placing.{Placeable, PlacesStored};
 
 // The place of each man's woman on his list, and of each woman's man on hers, and zeros past n.
 pub(crate) fn places_of(n: usize, mranks: &[u16], wranks: &[u16], matching: &[u8]) -> Places
     requires { ⌜ Placeable n (now mranks) (now wranks) (now matching) ⌝ }
-    ensures { λ r. ⌜ Placed n (now₀ mranks) (now₀ wranks) (now₀ matching) n (r .men) (r .women) ⌝ }
+    ensures { λ r. ⌜ PlacesStored n (now₀ mranks) (now₀ wranks) (now₀ matching) n (r .men) (r .women) ⌝ }
 {
     let mut men = [0u16; Instance::LARGEST];
     let mut women = [0u16; Instance::LARGEST];

@@ -11,14 +11,14 @@ use Rattle.laws.specs.Choice.{both}
 use Rattle.laws.specs.Both.{both-false}
 use Rattle.laws.specs.First.{Scan, first, scan-start, scan-on, scan-hit, scan-end}
 use Rattle.format.specs.Format.{people, offset, listLength, listsStart, due}
-use Rattle.format.specs.Check.{rightPair, firstWrongPair, Sized}
+use Rattle.format.specs.Check.{rightPair, firstWrongPair, RightSize}
 
 -- What the search knows at pair k: the pairs before are as they have to be, and where list k is due
 pub record PairScan (b : List ℕ) (n d k : ℕ) : Type 0 where
   pub scan : Scan (λ i. not (rightPair b i)) (2 * n) k
   pub next : d ≡ due b k
 
-module _ {b : List ℕ} {n : ℕ} (S : Sized b n) where
+module _ {b : List ℕ} {n : ℕ} (S : RightSize b n) where
   -- the first list is due where the lists begin
   pub pair-start : PairScan b n (listsStart n) 0
   unfolding due

@@ -25,7 +25,7 @@ use Rattle.matchings.specs.BookMarket.{market}
 use Rattle.matchings.specs.Extreme.{matchingOf, checkExtreme}
 use Rattle.instances.specs.Usable.{Usable, marketIn}
 use Rattle.instances.specs.Laws.BookTables.{usable, usable-alike}
-use Rattle.extremes.specs.Places.{Writable, womenAt}
+use Rattle.extremes.specs.Places.{MatchingWritable, womenAt}
 
 -- the rule of the room follows the book's check, whatever the number is where that refuses
 room-after : (v : Verdict) (n k room : ℕ) → n ≡ numberIf v k → andThen v (checkRoom n room) ≡ andThen v (checkRoom k room)
@@ -59,7 +59,7 @@ module _ {r : Record} (U : Usable r) {p : ℕ → ℕ} (P : Stable (marketIn r) 
   on-list u = stable-full (U .men .proper) (U .complete) P u
 
   -- so the women at the places can be written
-  pub places-writable : {places out : List ℕ} → ((i : ℕ) → i < r .n → vec places i ≡ p i) → r .n ≤ length places → r .n ≤ length out → Writable (r .n) (r .mlists) places out
+  pub places-writable : {places out : List ℕ} → ((i : ℕ) → i < r .n → vec places i ≡ p i) → r .n ≤ length places → r .n ≤ length out → MatchingWritable (r .n) (r .mlists) places out
   places-writable same h room =
       record {
         lists = U .men .proposers;

@@ -12,7 +12,7 @@ use borrow.Author.Tests.{eqb-true, not-false}
 use Rattle.laws.specs.Both.{both-left, both-right}
 use Rattle.laws.specs.First.{first-miss}
 use Rattle.format.specs.Format.{people, offset, listLength, listsStart, due, entry, stretch, size}
-use Rattle.format.specs.Check.{rightPair, firstWrongPair, Sized, RightPairs, Listed}
+use Rattle.format.specs.Check.{rightPair, firstWrongPair, RightSize, RightPairs, Listed}
 use Rattle.format.specs.Laws.Bounds.{list-end}
 use Rattle.format.specs.Laws.Holds.{Holds, part-holds}
 
@@ -21,7 +21,7 @@ pub stretch-holds : {b l : List ℕ} {k : ℕ} → Listed b k → l ≡ stretch 
 unfolding entry
 stretch-holds {b} {k = k} L e = part-holds b (offset b k) (listLength b k) (L .within) e
 
-module _ {b : List ℕ} {n : ℕ} (S : Sized b n) where
+module _ {b : List ℕ} {n : ℕ} (S : RightSize b n) where
   -- directory pair k lies within the book
   pub in-directory : {k : ℕ} → k < 2 * n → 5 + 4 * k < length b
   unfolding size

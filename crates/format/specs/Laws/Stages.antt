@@ -13,7 +13,7 @@ use Rattle.format.specs.Verdict.{fine, rule, broken}
 use Rattle.format.specs.Laws.Verdict.{rule-fine}
 use Rattle.format.specs.Format.{largest, byte, people, offset, listLength, entry, size}
 use Rattle.format.specs.Lists.{checkLists}
-use Rattle.format.specs.Check.{rightPair, firstWrongPair, checkBook, Sized, RightPairs}
+use Rattle.format.specs.Check.{rightPair, firstWrongPair, checkBook, RightSize, RightPairs}
 
 -- What is known of a book once its first two bytes are read
 pub record Opened (b : List ℕ) (n : ℕ) : Type 0 where
@@ -49,10 +49,10 @@ module _ {b : List ℕ} {n : ℕ} (O : Opened b n) where
   pub check-long : {s : ℕ} → s ≡ size n → s < length b → checkBook b ≡ broken 4 s
   check-long {s} q h = let m : s ≤ length b = omega arith in rw (rest, ← q, le-ltb _ _ m, lt-ltb _ _ h)
 
-  pub sized : {s : ℕ} → s ≡ size n → s ≤ length b → length b ≤ s → Sized b n
+  pub sized : {s : ℕ} → s ≡ size n → s ≤ length b → length b ≤ s → RightSize b n
   sized q l m = record { number = O .number; few = O .few; long = omega arith }
 
-  module _ (S : Sized b n) {k : ℕ} (e : k ≡ firstWrongPair b) where
+  module _ (S : RightSize b n) {k : ℕ} (e : k ≡ firstWrongPair b) where
     pub in-order : 2 * n ≤ k → RightPairs b n
     unfolding firstWrongPair
     in-order h =

@@ -18,13 +18,13 @@ use Rattle.format.specs.Laws.Holds.{Holds}
 use Rattle.format.specs.Laws.Directory.{stretch-holds}
 use Rattle.format.specs.Laws.Sides.{FullList, side-list}
 use Rattle.format.specs.Place.{place}
-use Rattle.format.specs.Record.{listCells, rankCells, SideTables, Record, numberIf, RecordIs, Recorded, Cleared, Row, Side}
+use Rattle.format.specs.Record.{listCells, rankCells, SideTables, Record, numberIf, RecordIs, Recorded, Cleared, RowSource, SideSource}
 
 -- a run of m stores where m is the length of the list
 pub stores-all : {at m k : ℕ} {f g : ℕ → ℕ} {s t : List ℕ} → Stores at m f g s t → m ≤ k → k ≤ m → Stores at k f g s t
 stores-all {at} {m} {k} {f} {g} {s} {t} S h u = let e : m ≡ k = omega arith in subst (λ (j : ℕ). Stores at j f g s t) e S
 
-module _ {l lists ranks : List ℕ} {at m e : ℕ} (R : Row l at lists ranks) (h : m < length l) (q : e ≡ byte l m) where
+module _ {l lists ranks : List ℕ} {at m e : ℕ} (R : RowSource l at lists ranks) (h : m < length l) (q : e ≡ byte l m) where
   -- an entry is small
   pub entry-small : e < length l
   entry-small = omega (arith, R .names .below h)
@@ -39,7 +39,7 @@ module _ {l lists ranks : List ℕ} {at m e : ℕ} (R : Row l at lists ranks) (h
       stores-on S q refl (omega (arith, R .rank-room, entry-small))
       (λ j u r. let z : j ≡ m = R .names .apart (omega arith) h r in omega arith)
 
-module _ {b : List ℕ} {n from : ℕ} (K : Side b n from) {i : ℕ} (h : i < n) where
+module _ {b : List ℕ} {n from : ℕ} (K : SideSource b n from) {i : ℕ} (h : i < n) where
   full : FullList b n (from + i)
   full = side-list (K .source) (K .start) h
 
@@ -74,7 +74,7 @@ module _ {b : List ℕ} {n from : ℕ} (K : Side b n from) {i : ℕ} (h : i < n)
       side-cell = omega (arith, lists-end, S .lists-long)
 
       -- and then it fits the next row of both tables
-      pub side-row : Row l (i * n) (set lists (n * n + i) (length l)) ranks
+      pub side-row : RowSource l (i * n) (set lists (n * n + i) (length l)) ranks
       side-row =
           let z = length-set lists (n * n + i) (length l) in
           record {

@@ -20,7 +20,7 @@ use Rattle.matchings.specs.Matching.{vectorOf, checkMatching}
 use Rattle.matchings.specs.Laws.StableCheck.{fine-stable}
 use Rattle.matchings.specs.Laws.StableVector.{fine-vector}
 use Rattle.stability.specs.Laws.Judged.{BookJudged}
-use Rattle.extremes.specs.Places.{Writable, womenAt}
+use Rattle.extremes.specs.Places.{MatchingWritable, womenAt}
 use Rattle.extremes.specs.Laws.ExtremeBytes.{places-writable}
 use Rattle.repairs.specs.declared.answer.Answer.{Answer}
 use Rattle.repairs.specs.Repair.{fixed, answerFor, repairOutcome}
@@ -83,7 +83,7 @@ module _ {b m : List ℕ} {R : Record} {j : Judged} (J : BookJudged b m R j) (f 
     found = shows-book J f u S
 
     -- which can be written
-    pub found-writable : {out : List ℕ} → R .n ≤ length out → Writable (R .n) (R .mlists) (r .men) out
+    pub found-writable : {out : List ℕ} → R .n ≤ length out → MatchingWritable (R .n) (R .mlists) (r .men) out
     found-writable h =
         let P = places-stable J f (after-stable J f answers) (found .places) in
         places-writable (judged-usable J f) P (λ i u. refl) (omega (arith, S .long, judged-given J f .few)) h

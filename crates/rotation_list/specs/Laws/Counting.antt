@@ -11,7 +11,7 @@ use Rattle.format.specs.Record.{Record}
 use Rattle.matchings.specs.declared.places.Places.{Places}
 use Rattle.instances.specs.Usable.{Usable, marketIn}
 use Rattle.extremes.specs.Places.{PlacesIn}
-use Rattle.rotation_pass.specs.Pass.{Start, Sized, slicesOf}
+use Rattle.rotation_pass.specs.Pass.{Start, SlicesSized, slicesOf}
 use Rattle.rotation_numbering.specs.Laws.Numbers.{run-sized, run-best, run-state}
 
 -- four zeros for each man
@@ -20,7 +20,7 @@ frames-long U = zeros-front {m = 4 * largest} (omega (arith, U .few))
 
 module _ {r : Record} (U : Usable r) {best : Places} (P : PlacesIn (r .n) (marketIn r) (proposer-optimal (marketIn r)) best) where
   -- its slices: the student-best places, and zeros
-  pub pass-sized : Sized (r .n) (slicesOf (take (r .n) (best .men)) (take (r .n) (best .women)) (take (r .n) (zeros largest)) (take (r .n) (zeros largest)) (take (r .n) (zeros largest)) (take (r .n * 4) (zeros (4 * largest))) (take (r .n) (zeros largest)) (take (r .n) (zeros largest)))
+  pub pass-sized : SlicesSized (r .n) (slicesOf (take (r .n) (best .men)) (take (r .n) (best .women)) (take (r .n) (zeros largest)) (take (r .n) (zeros largest)) (take (r .n) (zeros largest)) (take (r .n * 4) (zeros (4 * largest))) (take (r .n) (zeros largest)) (take (r .n) (zeros largest)))
   pass-sized =
       let z = zeros-front (U .few) in
       let S = run-sized U P in

@@ -11,7 +11,7 @@ use Rattle.stable_theory.specs.Stable.Market.{Market, Proper}
 use Rattle.stable_theory.specs.Stable.Vector.{Holds, Stable}
 use Rattle.stable_theory.specs.Stable.Holding.{stable-same, hold-at, held-at, holder-unique}
 use Rattle.stable_theory.specs.Least.Optimal.{proposer-optimal, proposer-optimal-stable, receiver-optimal-stable}
-use Rattle.rotation_pass.specs.Pass.{Start, slicesOf, Sized}
+use Rattle.rotation_pass.specs.Pass.{Start, slicesOf, SlicesSized}
 use Rattle.rotation_pass.specs.Shares.{Shares, replaced}
 use Rattle.rotation_pass.specs.Walks.{Stands, NotesHolder}
 use Rattle.rotation_pass.specs.Laws.Shares.{shares-start}
@@ -19,7 +19,7 @@ use Rattle.rotation_pass.specs.Laws.Shares.{shares-start}
 -- What the loop knows: all is noted of the men below s
 pub record Begun (I : Market) (given ends p t held due on frames down up : List ℕ) (s : ℕ) : Type 0 where
   pub upto : s ≤ I .proposers .size
-  pub sized : Sized (I .proposers .size) (slicesOf p t held due on frames down up)
+  pub sized : SlicesSized (I .proposers .size) (slicesOf p t held due on frames down up)
   pub dues : (l : ℕ) → l < s → vec due l ≡ replaced (vec given l) (vec p l) 0
   pub off : (l : ℕ) → l < s → vec on l ≡ 0
   pub downs : (l : ℕ) → l < s → vec down l ≡ I .proposers .size
@@ -28,7 +28,7 @@ pub record Begun (I : Market) (given ends p t held due on frames down up : List 
 
 -- nothing is
 pub begun-start :
-    {I : Market} {given ends p t held due on frames down up : List ℕ} → Sized (I .proposers .size) (slicesOf p t held due on frames down up) →
+    {I : Market} {given ends p t held due on frames down up : List ℕ} → SlicesSized (I .proposers .size) (slicesOf p t held due on frames down up) →
     Begun I given ends p t held due on frames down up 0
 begun-start Z =
     record {

@@ -9,9 +9,9 @@ use Rattle.laws.specs.RangeStores.{range-start, range-on}
 use Rattle.laws.specs.Values.{vec}
 use Rattle.stable_theory.specs.Stable.Market.{Market, Proper}
 use Rattle.stable_theory.specs.Rotations.Rotation.{eliminate}
-use Rattle.stable_theory.specs.Rotations.Eliminate.{Turn}
+use Rattle.stable_theory.specs.Rotations.Eliminate.{RotationPart}
 use Rattle.stable_theory.specs.Rotations.FollowerCycle.{Cycled}
-use Rattle.rotation_pass.specs.Pass.{slicesOf, Sized}
+use Rattle.rotation_pass.specs.Pass.{slicesOf, SlicesSized}
 use Rattle.rotation_pass.specs.Path.{manAt, placeAt, womanAt, rankAt, Path, Closes}
 use Rattle.rotation_pass.specs.Shares.{Shares, Noted}
 use Rattle.rotation_pass.specs.Walks.{Stands, Eliminated}
@@ -25,7 +25,7 @@ pub record Eliminating (I : Market) (g : ℕ → ℕ) (frames : List ℕ) (low c
   pub cycled : Cycled I (vec p₀) low c (manAt (vec frames)) (womanAt (vec frames))
   pub from : low ≤ x
   pub upto : x ≤ c
-  pub sized : Sized (I .proposers .size) (slicesOf p t held due on frames down up)
+  pub sized : SlicesSized (I .proposers .size) (slicesOf p t held due on frames down up)
   pub stores : Eliminated (vec frames) x c (vec p₀) (vec t₀) (vec held₀) (vec on₀) (vec p) (vec t) (vec held) (vec on)
   pub shares : Shares I g (vec p) (vec due) (vec down) (vec up)
   pub leads : Leads I g (vec p₀) (cycled .rotation) (vec down) (vec up) dlead ulead
@@ -33,7 +33,7 @@ pub record Eliminating (I : Market) (g : ℕ → ℕ) (frames : List ℕ) (low c
 module _ {I : Market} (M : Proper I) {g : ℕ → ℕ} {frames p₀ t₀ held₀ on₀ : List ℕ} {low c : ℕ}
     (S : Stands I (vec p₀) (vec t₀) (vec held₀)) (Q : Path I (vec p₀) (vec frames) (vec on₀) c) (K : Closes I (vec p₀) (vec frames) low c) where
   -- no frame is
-  pub eliminating-start : {due down up : List ℕ} → Sized (I .proposers .size) (slicesOf p₀ t₀ held₀ due on₀ frames down up) → Shares I g (vec p₀) (vec due) (vec down) (vec up) →
+  pub eliminating-start : {due down up : List ℕ} → SlicesSized (I .proposers .size) (slicesOf p₀ t₀ held₀ due on₀ frames down up) → Shares I g (vec p₀) (vec due) (vec down) (vec up) →
       Eliminating I g frames low c p₀ t₀ held₀ on₀ p₀ t₀ held₀ due on₀ down up (I .proposers .size) (I .proposers .size) c
   eliminating-start Z H =
       record {
@@ -84,7 +84,7 @@ module _ {I : Market} (M : Proper I) {g : ℕ → ℕ} {frames p₀ t₀ held₀
           let (j, F) = closes-frame Q K (inside .0) (inside .1) in
           rw em (ek ∙ (F .place ∙ sym (E .cycled .to (inside .0) (inside .1))))
 
-      man-turn : Turn I (vec p₀) (E .cycled .rotation) m
+      man-turn : RotationPart I (vec p₀) (E .cycled .rotation) m
       man-turn = rw em (E .cycled .turns (inside .0) (inside .1))
 
       pub eliminating-on :

@@ -11,7 +11,7 @@ use Rattle.stable_theory.specs.Least.Optimal.{receiver-optimal}
 use Rattle.stable_theory.specs.Rotations.Rotation.{pairOf, eliminate}
 use Rattle.stable_theory.specs.Rotations.ExtraVector.{place-injective, mirror-vector}
 use Rattle.stable_theory.specs.Rotations.NextLaws.{next-receiver, next-follower, next-later, next-kept}
-use Rattle.stable_theory.specs.Rotations.Eliminate.{Turn, turn, turn-in, turn-at, follower-in, eliminate-out, eliminate-after}
+use Rattle.stable_theory.specs.Rotations.Eliminate.{RotationPart, turn, turn-in, turn-at, follower-in, eliminate-out, eliminate-after}
 use Rattle.stable_theory.specs.Rotations.EliminateStable.{eliminate-stable}
 use Rattle.stable_theory.specs.Rotations.EliminateMirror.{TurnedBack, eliminate-mirror}
 use Rattle.stable_theory.specs.Rotations.FollowerCycle.{Cycled, cycled}
@@ -28,7 +28,7 @@ module _ {I : Market} (M : Proper I) {p t held : ℕ → ℕ} (S : Stands I p t 
   cycle = cycled M (S .stable .settled) (closes-cycle Q K)
 
   -- a man of the cycle has his next woman in his frame
-  turn-woman : {x : ℕ} → low ≤ x → x < c → (r : Turn I p (cycle .rotation) (manAt frames x)) → womanAt frames x ≡ cycle .rotation .woman (suc (r .number))
+  turn-woman : {x : ℕ} → low ≤ x → x < c → (r : RotationPart I p (cycle .rotation) (manAt frames x)) → womanAt frames x ≡ cycle .rotation .woman (suc (r .number))
   turn-woman l h r = let (j, F) = closes-frame Q K l h in next-receiver M (S .stable .settled) (F .next) (r .next)
 
   -- men of different frames are different

@@ -8,7 +8,7 @@ use Rattle.laws.specs.Changed.{Changed}
 use Rattle.stable_theory.specs.Stable.Market.{Market, Proper}
 use Rattle.stable_theory.specs.Stable.Vector.{Stable}
 use Rattle.stable_theory.specs.Rotations.Rotation.{Rotation, Exposed, eliminate}
-use Rattle.stable_theory.specs.Rotations.Eliminate.{Turn, turn-moved}
+use Rattle.stable_theory.specs.Rotations.Eliminate.{RotationPart, turn-moved}
 use Rattle.stable_theory.specs.Rotations.Dichotomy.{passed-all, moved-passed}
 use Rattle.stable_theory.specs.Repairs.Repair.{IsDown, IsUp}
 use Rattle.stable_theory.specs.Repairs.Shared.{shared-down, shared-up}
@@ -17,11 +17,11 @@ use Rattle.rotation_pass.specs.Laws.Shares.{Leading, leading-same, leadi
 
 -- Man b is moved by ρ from his given place, or to it; ρ is exposed in q
 pub record Leaves (I : Market) (g q : ℕ → ℕ) (ρ : Rotation) (b : ℕ) : Type 0 where
-  pub turn : Turn I q ρ b
+  pub turn : RotationPart I q ρ b
   pub from : g b ≡ q b
 
 pub record Comes (I : Market) (g q : ℕ → ℕ) (ρ : Rotation) (b : ℕ) : Type 0 where
-  pub turn : Turn I q ρ b
+  pub turn : RotationPart I q ρ b
   pub to : g b ≡ eliminate I ρ q b
 
 -- Those who answer in the rotation that is eliminated
@@ -50,7 +50,7 @@ module _ {I : Market} (M : Proper I) {q : ℕ → ℕ} (Q : Stable I q) {ρ : Ro
 
   -- Man m is moved from his place under q to place k
   module _ {p p′ due down up : ℕ → ℕ} {m k dlead ulead : ℕ} (S : Shares I g p due down up) (L : Leads I g q ρ down up dlead ulead)
-      (r : Turn I q ρ m) (at : p m ≡ q m) (to : k ≡ eliminate I ρ q m) (small : k < 65535) (C : Changed m k p p′) where
+      (r : RotationPart I q ρ m) (at : p m ≡ q m) (to : k ≡ eliminate I ρ q m) (small : k < 65535) (C : Changed m k p p′) where
     -- he goes down his list, and not past his given place
     goes : p m < k
     goes = omega (arith, turn-moved X r)

@@ -14,7 +14,7 @@ use Rattle.stable_theory.specs.Rotations.Canonical.{rotations-complete}
 use Rattle.stable_theory.specs.Rotations.PassedCount.{passed-none, passed-every}
 use Rattle.stable_theory.specs.Repairs.Repair.{IsDown, IsUp}
 use Rattle.rotation_pass.specs.Groups.{Grouped}
-use Rattle.rotation_pass.specs.Pass.{Slices, slicesOf, Sized}
+use Rattle.rotation_pass.specs.Pass.{Slices, slicesOf, SlicesSized}
 use Rattle.rotation_pass.specs.Shares.{Shares}
 use Rattle.rotation_pass.specs.Walks.{Stands, Passing}
 use Rattle.rotation_pass.specs.Laws.Path.{path-none}
@@ -28,7 +28,7 @@ pub record Ended (I : Market) (g ends : ℕ → ℕ) (W : Slices) (start found :
 
 -- it begins at the men's best matching
 pub ended-start :
-    {I : Market} → Proper I → {g ends : ℕ → ℕ} {p t held due on frames down up : List ℕ} → Sized (I .proposers .size) (slicesOf p t held due on frames down up) →
+    {I : Market} → Proper I → {g ends : ℕ → ℕ} {p t held due on frames down up : List ℕ} → SlicesSized (I .proposers .size) (slicesOf p t held due on frames down up) →
     Same I (vec p) (proposer-optimal I) → Stands I (vec p) (vec t) (vec held) → Shares I g (vec p) (vec due) (vec down) (vec up) →
     ((m : ℕ) → m < I .proposers .size → vec on m ≡ 0) → Ended I g ends (slicesOf p t held due on frames down up) 0 0
 ended-start M {frames = frames} Z best S H off =

@@ -8,7 +8,7 @@ use Rattle.stable_theory.specs.Stable.Market.{Market}
 use Rattle.stable_theory.specs.Least.Optimal.{receiver-optimal}
 use Rattle.stable_theory.specs.Rotations.Rotation.{Next}
 use Rattle.stable_theory.specs.Rotations.FollowerCycle.{FollowerCycle}
-use Rattle.rotation_pass.specs.Path.{manAt, womanAt, Frame, Path, Top, Closes, Kept, Entered}
+use Rattle.rotation_pass.specs.Path.{manAt, womanAt, Frame, Path, Top, Closes, FrameKept, Entered}
 
 -- a frame is known by its numbers
 frame-same : {I : Market} {p : ℕ → ℕ} {before after : ℕ → ℕ} {x j : ℕ} → ((v : ℕ) → v < suc x * 4 → after v ≡ before v) → Frame I p before x j → Frame I p after x j
@@ -57,7 +57,7 @@ module _ {I : Market} {p : ℕ → ℕ} {frames on : ℕ → ℕ} {c : ℕ} (Q :
     top-going = rw (T .last e) at (Q .going {x = x} (omega arith))
 
   -- a next woman is written into the last frame
-  module _ {x k w r : ℕ} (e : suc x ≡ c) {after : ℕ → ℕ} (K : Kept x k w r frames after) where
+  module _ {x k w r : ℕ} (e : suc x ≡ c) {after : ℕ → ℕ} (K : FrameKept x k w r frames after) where
     pub path-kept : Path I p after on c
     path-kept =
         record {

@@ -19,9 +19,9 @@ use Rattle.stable_theory.specs.Rotations.Canonical.{rotations-complete}
 use Rattle.stable_theory.specs.Rotations.PassedCount.{passedCount}
 use Rattle.stable_theory.specs.Rotations.RotationCount.{sum-rises, rotations-most}
 use Rattle.rotation_pass.specs.declared.frames.Spot.{Spot}
-use Rattle.rotation_pass.specs.Pass.{Slices, slicesOf, Sized}
+use Rattle.rotation_pass.specs.Pass.{Slices, slicesOf, SlicesSized}
 use Rattle.rotation_pass.specs.Search.{SomeWilling, FirstWilling}
-use Rattle.rotation_pass.specs.Path.{Top, Closes, Kept, Entered, Resumes}
+use Rattle.rotation_pass.specs.Path.{Top, Closes, FrameKept, Entered, Resumes}
 use Rattle.rotation_pass.specs.Shares.{Shares}
 use Rattle.rotation_pass.specs.Walks.{Passing, Walking, left, remaining, Further, Moved, Eliminated}
 use Rattle.rotation_pass.specs.Laws.Search.{some-willing, found-next, found-going, found-at}
@@ -30,8 +30,8 @@ use Rattle.rotation_pass.specs.Laws.Elimination.{cycle, men-moved, stabl
 
 -- where the path changes its slices, their sizes stay
 pub sized-path :
-    {n : ℕ} {p t held due on frames down up on′ frames′ : List ℕ} → Sized n (slicesOf p t held due on frames down up) → length on′ ≡ length on →
-    length frames′ ≡ length frames → Sized n (slicesOf p t held due on′ frames′ down up)
+    {n : ℕ} {p t held due on frames down up on′ frames′ : List ℕ} → SlicesSized n (slicesOf p t held due on frames down up) → length on′ ≡ length on →
+    length frames′ ≡ length frames → SlicesSized n (slicesOf p t held due on′ frames′ down up)
 sized-path Z a b =
     record {
       p = Z .p;
@@ -76,7 +76,7 @@ module _ {I : Market} (M : Proper I) {g : ℕ → ℕ} {p t held due on frames d
   -- the first who does is written into his frame, and the man whom she has is his follower
   module _ {place w r : ℕ} (F : FirstWilling I (vec t) (at .man) (at .place) place w r) where
     pub walk-kept :
-        {kept : List ℕ} → Kept x place w r (vec frames) (vec kept) → length kept ≡ length frames →
+        {kept : List ℕ} → FrameKept x place w r (vec frames) (vec kept) → length kept ≡ length frames →
         Passing I g (slicesOf p t held due on kept down up) (at .depth) (at .found)
     walk-kept K n =
         record {
@@ -87,7 +87,7 @@ module _ {I : Market} (M : Proper I) {g : ℕ → ℕ} {p t held due on frames d
           counted = A .passing .counted;
         }
 
-    pub walk-reached : {f : ℕ → ℕ} {j : ℕ} → Kept x place w r (vec frames) f → j ≡ vec held w → Reached I (vec p) f (at .depth) j
+    pub walk-reached : {f : ℕ → ℕ} {j : ℕ} → FrameKept x place w r (vec frames) f → j ≡ vec held w → Reached I (vec p) f (at .depth) j
     walk-reached K ej =
         let S = A .passing .stands in
         let n = found-next M S last-man last-going last F in
@@ -130,7 +130,7 @@ module _ {I : Market} {g : ℕ → ℕ} {p t held due on frames down up : List �
 
     -- and the path up to the man before the cycle stands
     pub walk-back :
-        {p′ t′ held′ due′ on′ down′ up′ : List ℕ} → Sized (I .proposers .size) (slicesOf p′ t′ held′ due′ on′ frames down′ up′) →
+        {p′ t′ held′ due′ on′ down′ up′ : List ℕ} → SlicesSized (I .proposers .size) (slicesOf p′ t′ held′ due′ on′ frames down′ up′) →
         Eliminated (vec frames) low c (vec p) (vec t) (vec held) (vec on) (vec p′) (vec t′) (vec held′) (vec on′) →
         Shares I g (vec p′) (vec due′) (vec down′) (vec up′) → {q : Spot} → q .depth ≡ low → q .found ≡ found + 1 → Resumes (vec frames) low (q .man) (q .place) →
         Walking I g (slicesOf p′ t′ held′ due′ on′ frames down′ up′) q

@@ -8,7 +8,7 @@ use lib.ListN.{length, take, drop}
 use lib.Seq.{getD-take}
 use Rattle.format.specs.Record.{Record}
 use Rattle.instances.specs.Usable.{marketIn}
-use Rattle.extremes.specs.Places.{PlacesIn, Writable, womenAt}
+use Rattle.extremes.specs.Places.{PlacesIn, MatchingWritable, womenAt}
 use Rattle.laws.specs.Choice.{tested}
 use Rattle.laws.specs.Values.{vec}
 use Rattle.format.specs.Verdict.{Verdict, fine}
@@ -98,7 +98,7 @@ module _ {b : List ℕ} {r : Record} (R : Read b r) {numbers : List ℕ} {s : Ex
     closed-stable c = there-here (theorem-1-matching (market-proper (R .formed)) (closed-test (market-proper (R .formed)) (member set) .0 c))
 
     -- so they can be written, and are the matching of the set
-    pub set-writable : closedSet b set ≡ true → {out : List ℕ} → r .n ≤ length out → Writable (r .n) (r .mlists) men out
+    pub set-writable : closedSet b set ≡ true → {out : List ℕ} → r .n ≤ length out → MatchingWritable (r .n) (r .mlists) men out
     set-writable c h =
         let U = read-usable R in
         places-writable U (closed-stable c) (λ i u. refl) (omega (arith, S .long, U .few)) h

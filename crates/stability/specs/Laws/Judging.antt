@@ -21,7 +21,7 @@ use Rattle.matchings.specs.BookMarket.{market}
 use Rattle.matchings.specs.Laws.StableCheck.{names-matching, matching-stable, fine-stable}
 use Rattle.matchings.specs.Laws.StableVector.{mirror-man}
 use Rattle.stability.specs.Blocking.{checkTables, Searchable, OnLists}
-use Rattle.stability.specs.Placing.{Placeable, Placed}
+use Rattle.stability.specs.Placing.{Placeable, PlacesStored}
 use Rattle.stability.specs.Judge.{Entries, JudgedIs, Unplaced}
 use Rattle.stability.specs.Laws.TableCheck.{places-placeable, places-searchable, places-on-lists, man-place, woman-place, tables-stable}
 
@@ -74,9 +74,9 @@ module _ {b : List ℕ} (m : List ℕ) {i : Instance} {R : Record} (B : Recorded
       pub judge-placeable : Placeable (R .n) (R .mranks) (R .wranks) m
       judge-placeable = rw (book-tables .number) (places-placeable matching book-tables)
 
-      module _ {p : Places} (F : Placed (R .n) (R .mranks) (R .wranks) m (R .n) (p .men) (p .women)) where
+      module _ {p : Places} (F : PlacesStored (R .n) (R .mranks) (R .wranks) m (R .n) (p .men) (p .women)) where
         -- once they are, the search can be made
-        placed : Placed (people b) (R .mranks) (R .wranks) m (people b) (p .men) (p .women)
+        placed : PlacesStored (people b) (R .mranks) (R .wranks) m (people b) (p .men) (p .women)
         placed = rw (book-tables .number) at F
 
         pub judge-searchable : Searchable (R .n) (R .mlists) (R .wranks) (p .women)

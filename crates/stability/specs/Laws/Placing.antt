@@ -9,10 +9,10 @@ use Rattle.laws.specs.Stores.{stores-start}
 use Rattle.laws.specs.Table.{cell, cell-lt}
 use Rattle.format.specs.Format.{largest}
 use Rattle.matchings.specs.Matching.{womanOf}
-use Rattle.stability.specs.Placing.{Placeable, Placed}
+use Rattle.stability.specs.Placing.{Placeable, PlacesStored}
 
 -- no man has a place yet
-pub placed-start : {n : ℕ} {mranks wranks m : List ℕ} → Placed n mranks wranks m 0 (replicate largest 0) (replicate largest 0)
+pub placed-start : {n : ℕ} {mranks wranks m : List ℕ} → PlacesStored n mranks wranks m 0 (replicate largest 0) (replicate largest 0)
 placed-start = record { his = stores-start 0 _ _ _; hers = stores-start 0 _ _ _ }
 
 module _ {n : ℕ} {mranks wranks m : List ℕ} (A : Placeable n mranks wranks m) {k w : ℕ} (u : k < n) (e : w ≡ womanOf m k) where
@@ -28,8 +28,8 @@ module _ {n : ℕ} {mranks wranks m : List ℕ} (A : Placeable n mranks wranks m
 
   -- one man more
   pub placed-on :
-      {men women : List ℕ} → Placed n mranks wranks m k men women → {x y : ℕ} → x ≡ cell mranks n k w → y ≡ cell wranks n w k →
-      Placed n mranks wranks m (k + 1) (set men k x) (set women w y)
+      {men women : List ℕ} → PlacesStored n mranks wranks m k men women → {x y : ℕ} → x ≡ cell mranks n k w → y ≡ cell wranks n w k →
+      PlacesStored n mranks wranks m (k + 1) (set men k x) (set women w y)
   placed-on F p q =
       let room = length-replicate {A = ℕ} largest 0 in
       record {
@@ -40,6 +40,6 @@ module _ {n : ℕ} {mranks wranks m : List ℕ} (A : Placeable n mranks wranks m
 
 -- all men
 pub placed-end :
-    {n k : ℕ} {mranks wranks m men women : List ℕ} → Placed n mranks wranks m k men women → k ≤ n → n ≤ k →
-    Placed n mranks wranks m n men women
+    {n k : ℕ} {mranks wranks m men women : List ℕ} → PlacesStored n mranks wranks m k men women → k ≤ n → n ≤ k →
+    PlacesStored n mranks wranks m n men women
 placed-end {n} {k} F u v = let e : k ≡ n = omega arith in rw e at F

@@ -26,7 +26,7 @@ use Rattle.matchings.specs.Laws.StableVector.{man-of-lt, man-of-has}
 use Rattle.instances.specs.Usable.{Usable, marketIn}
 use Rattle.instances.specs.Laws.BookTables.{usable, usable-alike}
 use Rattle.stability.specs.Blocking.{willing, someWilling, lowestWilling, checkTables, Searchable, OnLists}
-use Rattle.stability.specs.Placing.{Placeable, Placed}
+use Rattle.stability.specs.Placing.{Placeable, PlacesStored}
 
 module _ {b m : List ℕ} {R : Record} (A : MatchingIn b m) (T : RecordIs b (people b) R) where
   -- the tables with the book's number of persons as n
@@ -66,7 +66,7 @@ module _ {b m : List ℕ} {R : Record} (A : MatchingIn b m) (T : RecordIs b (peo
         women-ranked = sound .men .ranked;
       }
 
-  module _ {men women : List ℕ} (F : Placed (people b) (R .mranks) (R .wranks) m (people b) men women) where
+  module _ {men women : List ℕ} (F : PlacesStored (people b) (R .mranks) (R .wranks) m (people b) men women) where
     -- the places are those of the matching
     pub man-place : {i : ℕ} → i < people b → vec men i ≡ manRank b i (womanOf m i)
     man-place {i} u = front-stored (F .his) u ∙ man-rank u (A .names .below u)

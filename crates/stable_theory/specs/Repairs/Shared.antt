@@ -6,12 +6,12 @@ use native.Mathlib.Omega.{arith}
 use Rattle.stable_theory.specs.Stable.Market.{Market, Proper}
 use Rattle.stable_theory.specs.Stable.Vector.{Stable, Before}
 use Rattle.stable_theory.specs.Rotations.Rotation.{Rotation, Exposed, eliminate}
-use Rattle.stable_theory.specs.Rotations.Eliminate.{Turn}
+use Rattle.stable_theory.specs.Rotations.Eliminate.{RotationPart}
 use Rattle.stable_theory.specs.Rotations.Dichotomy.{passed-all, not-passed-all, moved-passed, unmoved-not}
 use Rattle.stable_theory.specs.Repairs.Repair.{Parts, IsDown, IsUp}
 
 -- The rotation ρ, exposed in the stable vector q, moves s and l
-module _ {I : Market} (M : Proper I) {q : ℕ → ℕ} (Q : Stable I q) {ρ : Rotation} (X : Exposed I q ρ) {s l : ℕ} (S : Turn I q ρ s) (L : Turn I q ρ l) (u : s < I .proposers .size) where
+module _ {I : Market} (M : Proper I) {q : ℕ → ℕ} (Q : Stable I q) {ρ : Rotation} (X : Exposed I q ρ) {s l : ℕ} (S : RotationPart I q ρ s) (L : RotationPart I q ρ l) (u : s < I .proposers .size) where
   -- where p has both at the places from which it moves them, a stable vector after p that parts s parts l
   pub parts-down : {p k : ℕ → ℕ} → p s ≡ q s → p l ≡ q l → Parts I p s k → Before I p k → Parts I p l k
   parts-down e f K le =
@@ -24,7 +24,7 @@ module _ {I : Market} (M : Proper I) {q : ℕ → ℕ} (Q : Stable I q) {ρ : Ro
       let z = unmoved-not M Q (K .stable) X S (omega (arith, K .without, le s u)) in
       record { stable = K .stable; without = λ g. omega (arith, not-passed-all M Q (K .stable) X z L, L .to, L .next .below) }
 
-module _ {I : Market} (M : Proper I) {q : ℕ → ℕ} (Q : Stable I q) {ρ : Rotation} (X : Exposed I q ρ) {s l : ℕ} (S : Turn I q ρ s) (L : Turn I q ρ l) (u : s < I .proposers .size) (v : l < I .proposers .size) {p : ℕ → ℕ} where
+module _ {I : Market} (M : Proper I) {q : ℕ → ℕ} (Q : Stable I q) {ρ : Rotation} (X : Exposed I q ρ) {s l : ℕ} (S : RotationPart I q ρ s) (L : RotationPart I q ρ l) (u : s < I .proposers .size) (v : l < I .proposers .size) {p : ℕ → ℕ} where
   -- so the repair down of s is that of l
   pub shared-down : {d : ℕ → ℕ} → p s ≡ q s → p l ≡ q l → IsDown I p s d → IsDown I p l d
   shared-down e f D =

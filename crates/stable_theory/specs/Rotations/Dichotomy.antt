@@ -12,7 +12,7 @@ use Rattle.stable_theory.specs.Stable.Vector.{Stable}
 use Rattle.stable_theory.specs.Stable.Lattice.{stable-max}
 use Rattle.stable_theory.specs.Rotations.Rotation.{Next, Rotation, Exposed, eliminate, passed}
 use Rattle.stable_theory.specs.Rotations.NextLaws.{next-upto, follower-moved}
-use Rattle.stable_theory.specs.Rotations.Eliminate.{Turn, turn-at, eliminate-at}
+use Rattle.stable_theory.specs.Rotations.Eliminate.{RotationPart, turn-at, eliminate-at}
 
 module _ {I : Market} (M : Proper I) {p r : ℕ → ℕ} (P : Stable I p) (R : Stable I r) {ρ : Rotation} (X : Exposed I p ρ) where
   -- r is later than p for the proposer of pair k: so it is for the next, and so for all
@@ -44,7 +44,7 @@ module _ {I : Market} (M : Proper I) {p r : ℕ → ℕ} (P : Stable I p) (R : S
       rw f at (ahead-on 0 l (omega arith) z)
 
   -- past it: everyone of the rotation is at or after the place to which it moves him
-  pub passed-all : passed I ρ r ≡ true → {i : ℕ} → Turn I p ρ i → eliminate I ρ p i ≤ r i
+  pub passed-all : passed I ρ r ≡ true → {i : ℕ} → RotationPart I p ρ i → eliminate I ρ p i ≤ r i
   unfolding passed
   passed-all e {i} t =
       let h = leb-true (I .proposers .place (ρ .man 0) (ρ .woman 1)) (r (ρ .man 0)) e in
@@ -52,7 +52,7 @@ module _ {I : Market} (M : Proper I) {p r : ℕ → ℕ} (P : Stable I p) (R : S
       omega (arith, upto (rw (t .is) at z) (t .next), t .to)
 
   -- not past it: everyone of the rotation is at or before the place from which it moves him
-  pub not-passed-all : passed I ρ r ≡ false → {i : ℕ} → Turn I p ρ i → r i ≤ p i
+  pub not-passed-all : passed I ρ r ≡ false → {i : ℕ} → RotationPart I p ρ i → r i ≤ p i
   unfolding passed
   not-passed-all e {i} t =
       let h = leb-false (I .proposers .place (ρ .man 0) (ρ .woman 1)) (r (ρ .man 0)) e in
@@ -61,11 +61,11 @@ module _ {I : Market} (M : Proper I) {p r : ℕ → ℕ} (P : Stable I p) (R : S
       absurd (omega (arith, upto z (X .next (X .some)))))
 
   -- one of the rotation is moved by r, and so r is past it
-  pub moved-passed : {i : ℕ} → Turn I p ρ i → p i < r i → passed I ρ r ≡ true
+  pub moved-passed : {i : ℕ} → RotationPart I p ρ i → p i < r i → passed I ρ r ≡ true
   moved-passed t h = tested (passed I ρ r) (λ e. e) (λ e. absurd (omega (arith, not-passed-all e t)))
 
   -- one of the rotation is not yet where it moves him, and so r is not past it
-  pub unmoved-not : {i : ℕ} → Turn I p ρ i → r i < eliminate I ρ p i → passed I ρ r ≡ false
+  pub unmoved-not : {i : ℕ} → RotationPart I p ρ i → r i < eliminate I ρ p i → passed I ρ r ≡ false
   unmoved-not t h = tested (passed I ρ r) (λ e. absurd (omega (arith, passed-all e t))) (λ e. e)
 
   -- Dichotomy, in one statement: r is at or before p for everyone of the rotation, or at or after the next receiver

@@ -34,7 +34,7 @@ module _ (I : Market) (ρ : Rotation) (p : ℕ → ℕ) where
   eliminate-out {i} h = rw (le-ltb (pairOf ρ i) (ρ .pairs) h, eliminate)
 
 -- Proposer i's part in the rotation: the number of his pair, his next receiver and follower, and his new place
-pub record Turn (I : Market) (p : ℕ → ℕ) (ρ : Rotation) (i : ℕ) : Type 0 where
+pub record RotationPart (I : Market) (p : ℕ → ℕ) (ρ : Rotation) (i : ℕ) : Type 0 where
   pub number : ℕ
   pub below : number < ρ .pairs
   pub is : ρ .man number ≡ i
@@ -42,7 +42,7 @@ pub record Turn (I : Market) (p : ℕ → ℕ) (ρ : Rotation) (i : ℕ) : Type 
   pub to : eliminate I ρ p i ≡ I .proposers .place i (ρ .woman (suc number))
 
 -- whoever has a part in the rotation is found in it
-pub turn-in : {I : Market} {p : ℕ → ℕ} {ρ : Rotation} {i : ℕ} → Turn I p ρ i → pairOf ρ i < ρ .pairs
+pub turn-in : {I : Market} {p : ℕ → ℕ} {ρ : Rotation} {i : ℕ} → RotationPart I p ρ i → pairOf ρ i < ρ .pairs
 turn-in {ρ = ρ} t = omega (arith, pairOf-upto ρ (t .is), t .below)
 
 -- A pair of the rotation: pair k once more
@@ -58,7 +58,7 @@ module _ {I : Market} {p : ℕ → ℕ} {ρ : Rotation} (X : Exposed I p ρ) whe
       split k (pairOf ρ (ρ .man k)) (λ g. omega arith) (λ g. absurd (X .distinct (pairOf ρ (ρ .man k)) k g h (pairOf-man ρ (omega arith))))
 
   -- an exposed rotation's proposer, or another
-  pub turn : {C : Type 0} (i : ℕ) → (Turn I p ρ i → C) → (ρ .pairs ≤ pairOf ρ i → C) → C
+  pub turn : {C : Type 0} (i : ℕ) → (RotationPart I p ρ i → C) → (ρ .pairs ≤ pairOf ρ i → C) → C
   turn i f g =
       split (ρ .pairs) (pairOf ρ i) g
       (λ h. let e = pairOf-man ρ h in
@@ -71,7 +71,7 @@ module _ {I : Market} {p : ℕ → ℕ} {ρ : Rotation} (X : Exposed I p ρ) whe
       eliminate-in I ρ p (omega arith) ∙ ap (λ (m : ℕ). I .proposers .place (ρ .man k) (ρ .woman (suc m))) e
 
   -- the part of the proposer of pair k
-  pub turn-at : (k : ℕ) → k < ρ .pairs → Turn I p ρ (ρ .man k)
+  pub turn-at : (k : ℕ) → k < ρ .pairs → RotationPart I p ρ (ρ .man k)
   turn-at k h = record { number = k; below = h; is = refl; next = X .next h; to = eliminate-at k h }
 
   -- each pair follows another
@@ -112,7 +112,7 @@ module _ {I : Market} {p : ℕ → ℕ} {ρ : Rotation} (X : Exposed I p ρ) whe
   follower-in l h = let (k, g, a) = pair-after l h in let u = pairOf-upto ρ (sym (a .man)) in omega arith
 
   -- each of the rotation is moved on
-  pub turn-moved : {i : ℕ} → Turn I p ρ i → p i < eliminate I ρ p i
+  pub turn-moved : {i : ℕ} → RotationPart I p ρ i → p i < eliminate I ρ p i
   turn-moved t = omega (arith, t .to, t .next .below)
 
   -- nobody is moved back
@@ -120,5 +120,5 @@ module _ {I : Market} {p : ℕ → ℕ} {ρ : Rotation} (X : Exposed I p ρ) whe
   eliminate-after i u = turn i (λ t. omega (arith, turn-moved t)) (λ o. omega (arith, eliminate-out I ρ p o))
 
   -- whoever is moved is of the rotation
-  pub moved-turn : {i : ℕ} → p i < eliminate I ρ p i → Turn I p ρ i
+  pub moved-turn : {i : ℕ} → p i < eliminate I ρ p i → RotationPart I p ρ i
   moved-turn {i} h = turn i (λ t. t) (λ o. absurd (omega (arith, eliminate-out I ρ p o)))

@@ -10,12 +10,12 @@ use Rattle.stable_theory.specs.Stable.Vector.{Holds, Reaches, Stable}
 use Rattle.stable_theory.specs.Stable.Holding.{held-unique, holder-unique}
 use Rattle.stable_theory.specs.Rotations.Rotation.{Rotation, Exposed, pairOf, eliminate}
 use Rattle.stable_theory.specs.Rotations.ExtraVector.{place-injective}
-use Rattle.stable_theory.specs.Rotations.Eliminate.{Turn, turn, pair-before, follower-one, follower-in, eliminate-out, eliminate-at}
+use Rattle.stable_theory.specs.Rotations.Eliminate.{RotationPart, turn, pair-before, follower-one, follower-in, eliminate-out, eliminate-at}
 
 module _ {I : Market} (M : Proper I) {p : ℕ → ℕ} (P : Stable I p) {ρ : Rotation} (X : Exposed I p ρ) where
   -- whoever reaches w afterwards reached her before, or she is his next, or her holder is one she prefers
   reach : {C : Type 0} {j w : ℕ} → Reaches I (eliminate I ρ p) j w → (Reaches I p j w → C) →
-      ((t : Turn I p ρ j) → w ≡ ρ .woman (suc (t .number)) → C) →
+      ((t : RotationPart I p ρ j) → w ≡ ρ .woman (suc (t .number)) → C) →
       ((h : ℕ) → Holds I p h w → I .receivers .place w h < I .receivers .place w j → C) → C
   reach {j = j} {w = w} r before next worse =
       split (I .proposers .place j w) (p j)
@@ -27,11 +27,11 @@ module _ {I : Market} (M : Proper I) {p : ℕ → ℕ} (P : Stable I p) {ρ : Ro
       (λ o. absurd (omega (arith, r .upto, eliminate-out I ρ p o))))
 
   -- one of the rotation holds his next receiver afterwards, and no other
-  turn-holds : {i w : ℕ} (t : Turn I p ρ i) → Holds I (eliminate I ρ p) i w → w ≡ ρ .woman (suc (t .number))
+  turn-holds : {i w : ℕ} (t : RotationPart I p ρ i) → Holds I (eliminate I ρ p) i w → w ≡ ρ .woman (suc (t .number))
   turn-holds t h = place-injective M (h .pair) (t .next .pair) (sym (h .is) ∙ t .to)
 
   -- his next receiver prefers one of the rotation to whoever else reaches her
-  turn-best : {i j w : ℕ} (t : Turn I p ρ i) → w ≡ ρ .woman (suc (t .number)) → Reaches I (eliminate I ρ p) j w → I .receivers .place w i ≤ I .receivers .place w j
+  turn-best : {i j w : ℕ} (t : RotationPart I p ρ i) → w ≡ ρ .woman (suc (t .number)) → Reaches I (eliminate I ρ p) j w → I .receivers .place w i ≤ I .receivers .place w j
   turn-best {i} {j} {w} t e r =
       let H : Holds I p (ρ .man (suc (t .number))) w = rw e (t .next .held) in
       let b : I .receivers .place w i < I .receivers .place w (ρ .man (suc (t .number))) = rw e (t .next .prefers) in

@@ -13,7 +13,7 @@ use Rattle.stable_theory.specs.Stable.Market.{Market, Proper}
 use Rattle.stable_theory.specs.Stable.Vector.{Settled}
 use Rattle.stable_theory.specs.Rotations.Rotation.{Next, Rotation, Exposed, pairOf, eliminate}
 use Rattle.stable_theory.specs.Rotations.NextLaws.{next-receiver, next-follower}
-use Rattle.stable_theory.specs.Rotations.Eliminate.{Turn, turn, turn-at, follower-in}
+use Rattle.stable_theory.specs.Rotations.Eliminate.{RotationPart, turn, turn-at, follower-in}
 use Rattle.stable_theory.specs.Rotations.Choose.{Inside, inside-closed}
 
 -- The proposers `man low`, …, `man (top - 1)` with their next receivers
@@ -26,9 +26,9 @@ pub record FollowerCycle (I : Market) (p : ℕ → ℕ) (low top : ℕ) (man wom
 pub record Cycled (I : Market) (p : ℕ → ℕ) (low top : ℕ) (man woman : ℕ → ℕ) : Type 0 where
   pub rotation : Rotation
   pub exposed : Exposed I p rotation
-  pub turns : {x : ℕ} → low ≤ x → x < top → Turn I p rotation (man x)
+  pub turns : {x : ℕ} → low ≤ x → x < top → RotationPart I p rotation (man x)
   pub to : {x : ℕ} → low ≤ x → x < top → eliminate I rotation p (man x) ≡ I .proposers .place (man x) (woman x)
-  pub among : {i : ℕ} → Turn I p rotation i → (x : ℕ) × (low ≤ x) × (x < top) × (man x ≡ i)
+  pub among : {i : ℕ} → RotationPart I p rotation i → (x : ℕ) × (low ≤ x) × (x < top) × (man x ≡ i)
 
 module _ {I : Market} (M : Proper I) {p : ℕ → ℕ} (S : Settled I p) {low top : ℕ} {man woman : ℕ → ℕ} (C : FollowerCycle I p low top man woman) where
   -- one of the row
@@ -65,22 +65,22 @@ module _ {I : Market} (M : Proper I) {p : ℕ → ℕ} (S : Settled I p) {low to
       (n .pair .proposer) (in-row (omega arith) (C .some))
 
   -- where a proposer is of a rotation, so is his follower
-  carried : {σ : Rotation} → Exposed I p σ → {i w j : ℕ} → Next I p i w j → Turn I p σ i → Turn I p σ j
+  carried : {σ : Rotation} → Exposed I p σ → {i w j : ℕ} → Next I p i w j → RotationPart I p σ i → RotationPart I p σ j
   carried {σ} X {j = j} n t =
       let e = next-follower M S n (t .next) in
       turn X j (λ s. s) (λ o. absurd (omega (arith, follower-in X (t .number) (t .below), ap (pairOf σ) e)))
 
   -- one further on, and d further on
-  carried-one : {σ : Rotation} → Exposed I p σ → (x y : ℕ) → low ≤ x → y ≡ suc x → y < top → Turn I p σ (man x) → Turn I p σ (man y)
+  carried-one : {σ : Rotation} → Exposed I p σ → (x y : ℕ) → low ≤ x → y ≡ suc x → y < top → RotationPart I p σ (man x) → RotationPart I p σ (man y)
   carried-one X x y l e h t = rw e (carried X (C .next l (omega arith)) t)
 
-  carried-on : {σ : Rotation} → Exposed I p σ → (x d : ℕ) → low ≤ x → x + d < top → Turn I p σ (man x) → Turn I p σ (man (x + d))
+  carried-on : {σ : Rotation} → Exposed I p σ → (x d : ℕ) → low ≤ x → x + d < top → RotationPart I p σ (man x) → RotationPart I p σ (man (x + d))
   carried-on X x zero l h t = let e : x + 0 ≡ x = omega arith in rw e t
   carried-on X x (suc d) l h t =
       carried-one X (x + d) (x + suc d) (omega arith) (omega arith) h (carried-on X x d l (omega arith) t)
 
   -- so from one of the row to the last, from there to the first, and to all
-  carried-all : {σ : Rotation} → Exposed I p σ → (x y : ℕ) → low ≤ x → x < top → low ≤ y → y < top → Turn I p σ (man x) → Turn I p σ (man y)
+  carried-all : {σ : Rotation} → Exposed I p σ → (x y : ℕ) → low ≤ x → x < top → low ≤ y → y < top → RotationPart I p σ (man x) → RotationPart I p σ (man y)
   carried-all X x y l h m g t =
       let e : x + (pred top - x) ≡ pred top = omega arith in
       let f : low + (y - low) ≡ y = omega arith in
@@ -89,7 +89,7 @@ module _ {I : Market} (M : Proper I) {p : ℕ → ℕ} (S : Settled I p) {low to
       rw f at (carried-on X low (y - low) (omega arith) (omega arith) s)
 
   -- its elimination puts each at his next receiver
-  placed : {σ : Rotation} {x : ℕ} → low ≤ x → x < top → Turn I p σ (man x) → eliminate I σ p (man x) ≡ I .proposers .place (man x) (woman x)
+  placed : {σ : Rotation} {x : ℕ} → low ≤ x → x < top → RotationPart I p σ (man x) → eliminate I σ p (man x) ≡ I .proposers .place (man x) (woman x)
   placed {x = x} l h t =
       let (j, n, e) = onward l h in
       t .to ∙ ap (I .proposers .place (man x)) (next-receiver M S (t .next) n)
@@ -100,7 +100,7 @@ module _ {I : Market} (M : Proper I) {p : ℕ → ℕ} (S : Settled I p) {low to
       let N = inside in
       let X = N .exposed in
       let (x, l, h, q) = row-at (N .inside 0 (X .some)) in
-      let all : (y : ℕ) → low ≤ y → y < top → Turn I p (N .rotation) (man y) =
+      let all : (y : ℕ) → low ≤ y → y < top → RotationPart I p (N .rotation) (man y) =
       λ y m g. carried-all X x y l h m g (rw (sym q) at (turn-at X 0 (X .some))) in
       record {
         rotation = N .rotation;

@@ -9,13 +9,13 @@ use Rattle.stable_theory.specs.Stable.Vector.{Holds, Settled}
 use Rattle.stable_theory.specs.Stable.Holding.{holder-unique}
 use Rattle.stable_theory.specs.Rotations.Rotation.{Next, Rotation, Exposed, SamePairs, eliminate}
 use Rattle.stable_theory.specs.Rotations.ExtraVector.{place-injective}
-use Rattle.stable_theory.specs.Rotations.Eliminate.{Turn, pair-after, holds-pair, eliminate-at, turn-at}
+use Rattle.stable_theory.specs.Rotations.Eliminate.{RotationPart, pair-after, holds-pair, eliminate-at, turn-at}
 
 -- each of ρ's proposers is one of σ's, from the same place to the same place
 pub record Like (I : Market) (p r : ℕ → ℕ) (ρ σ : Rotation) : Type 0 where
-  pub also : {i : ℕ} → Turn I p ρ i → Turn I r σ i
-  pub from : {i : ℕ} → Turn I p ρ i → p i ≡ r i
-  pub to : {i : ℕ} → Turn I p ρ i → eliminate I ρ p i ≡ eliminate I σ r i
+  pub also : {i : ℕ} → RotationPart I p ρ i → RotationPart I r σ i
+  pub from : {i : ℕ} → RotationPart I p ρ i → p i ≡ r i
+  pub to : {i : ℕ} → RotationPart I p ρ i → eliminate I ρ p i ≡ eliminate I σ r i
 
 module _ {I : Market} (M : Proper I) {p r : ℕ → ℕ} {ρ σ : Rotation} (R : Settled I r) (X : Exposed I p ρ) (Y : Exposed I r σ) (L : Like I p r ρ σ) where
   -- the lowest of ρ is one of σ

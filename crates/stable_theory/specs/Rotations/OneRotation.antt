@@ -13,7 +13,7 @@ use Rattle.stable_theory.specs.Stable.Market.{Market, Proper}
 use Rattle.stable_theory.specs.Stable.Vector.{Stable, Before}
 use Rattle.stable_theory.specs.Least.Optimal.{proposer-optimal}
 use Rattle.stable_theory.specs.Rotations.Rotation.{Rotation, Exposed, SamePairs, eliminate, passed}
-use Rattle.stable_theory.specs.Rotations.Eliminate.{Turn, turn-moved, moved-turn, eliminate-after, turn-at}
+use Rattle.stable_theory.specs.Rotations.Eliminate.{RotationPart, turn-moved, moved-turn, eliminate-after, turn-at}
 use Rattle.stable_theory.specs.Rotations.EliminateStable.{eliminate-stable}
 use Rattle.stable_theory.specs.Rotations.Dichotomy.{passed-all, not-passed-all, moved-passed, unmoved-not}
 use Rattle.stable_theory.specs.Rotations.SameRotation.{same-sym, passed-same}
@@ -41,7 +41,7 @@ module _ {I : Market} (M : Proper I) {p : ℕ → ℕ} (P : Stable I p) {ρ : Ro
   -- σ is exposed in r, and its elimination newly passes ρ
   module _ {r : ℕ → ℕ} (R : Stable I r) {σ : Rotation} (Y : Exposed I r σ) (before : passed I ρ r ≡ false) (then : passed I ρ (eliminate I σ r) ≡ true) where
     -- each of ρ is one of σ
-    also : {i : ℕ} → Turn I p ρ i → Turn I r σ i
+    also : {i : ℕ} → RotationPart I p ρ i → RotationPart I r σ i
     also t =
         moved-turn Y (omega (arith, not-passed-all M P R X before t, turn-moved X t, passed-all M P (eliminate-stable M R Y) X then t))
 
@@ -58,15 +58,15 @@ module _ {I : Market} (M : Proper I) {p : ℕ → ℕ} (P : Stable I p) {ρ : Ro
         moved-passed M R (eliminate-stable M P X) Y (also t) (omega (arith, not-passed-all M P R X before t, turn-moved X t))
 
     -- each of σ is one of ρ
-    back : {i : ℕ} → Turn I r σ i → Turn I p ρ i
+    back : {i : ℕ} → RotationPart I r σ i → RotationPart I p ρ i
     back t = moved-turn X (omega (arith, not-passed-all M R P Y not-yet t, turn-moved Y t, passed-all M R (eliminate-stable M P X) Y just t))
 
     -- they come from one place
-    from : {i : ℕ} → Turn I p ρ i → p i ≡ r i
+    from : {i : ℕ} → RotationPart I p ρ i → p i ≡ r i
     from t = omega (arith, not-passed-all M P R X before t, not-passed-all M R P Y not-yet (also t))
 
     -- and go to one place
-    to : {i : ℕ} → Turn I p ρ i → eliminate I ρ p i ≡ eliminate I σ r i
+    to : {i : ℕ} → RotationPart I p ρ i → eliminate I ρ p i ≡ eliminate I σ r i
     to t = omega (arith, passed-all M P (eliminate-stable M R Y) X then t, passed-all M R (eliminate-stable M P X) Y just (also t))
 
     -- so the two are the same

@@ -15,7 +15,7 @@ use Rattle.stable_theory.specs.Stable.Vector.{Within, Stable, Before}
 use Rattle.stable_theory.specs.Least.LeastLaws.{least-after, least-least, least-stable}
 use Rattle.stable_theory.specs.Least.Optimal.{proposer-optimal}
 use Rattle.stable_theory.specs.Rotations.Rotation.{Rotation, Exposed, Precedes, eliminate, passed}
-use Rattle.stable_theory.specs.Rotations.Eliminate.{Turn, turn, turn-in, eliminate-out, eliminate-at, turn-at}
+use Rattle.stable_theory.specs.Rotations.Eliminate.{RotationPart, turn, turn-in, eliminate-out, eliminate-at, turn-at}
 use Rattle.stable_theory.specs.Rotations.EliminateStable.{eliminate-stable}
 use Rattle.stable_theory.specs.Rotations.Dichotomy.{passed-all}
 use Rattle.stable_theory.specs.Rotations.Subset.{required, precedes, Complete}
@@ -25,7 +25,7 @@ use Rattle.stable_theory.specs.Rotations.Runs.{Cut, cut, reach, run-stab
 
 module _ {I : Market} (M : Proper I) {p : ℕ → ℕ} (P : Stable I p) {ρ : Rotation} (X : Exposed I p ρ) where
   -- the start of `required` has the places to which the rotation moves its proposers
-  start-is : {i : ℕ} → Turn I p ρ i → eliminate I ρ (λ j. 0) i ≡ eliminate I ρ p i
+  start-is : {i : ℕ} → RotationPart I p ρ i → eliminate I ρ (λ j. 0) i ≡ eliminate I ρ p i
   start-is {i} t = eliminate-both I ρ (λ j. 0) p i (turn-in t)
 
   -- it is on the lists

@@ -9,7 +9,7 @@ use Rattle.stable_theory.specs.Stable.Market.{Market, Proper}
 use Rattle.stable_theory.specs.Stable.Vector.{Holds, Stable}
 use Rattle.stable_theory.specs.Least.Optimal.{proposer-optimal}
 use Rattle.stable_theory.specs.Rotations.Rotation.{Rotation, Exposed, SamePairs, Precedes}
-use Rattle.stable_theory.specs.Rotations.Eliminate.{Turn, turn-moved, holds-pair, turn-at}
+use Rattle.stable_theory.specs.Rotations.Eliminate.{RotationPart, turn-moved, holds-pair, turn-at}
 use Rattle.stable_theory.specs.Rotations.Dichotomy.{moved-passed}
 use Rattle.stable_theory.specs.Rotations.SameRotation.{same-sym, same-trans, exposed-same}
 use Rattle.stable_theory.specs.Rotations.Subset.{prefix, Complete}
@@ -23,7 +23,7 @@ precedes-same s t q = record { always = λ r X. among-same s (q .always r (expos
 
 module _ {I : Market} (M : Proper I) {z : ℕ} {ρ : ℕ → Rotation} (C : Complete I (proposer-optimal I) z ρ) where
   -- one of rotation j is past his place there from its elimination on
-  past-turn : (j k : ℕ) → j < k → k ≤ z → {i : ℕ} → Turn I (prefix I ρ (proposer-optimal I) j) (ρ j) i →
+  past-turn : (j k : ℕ) → j < k → k ≤ z → {i : ℕ} → RotationPart I (prefix I ρ (proposer-optimal I) j) (ρ j) i →
       prefix I ρ (proposer-optimal I) j i < prefix I ρ (proposer-optimal I) k i
   past-turn j k l h {i} t =
       let e : suc j + (k - suc j) ≡ k = omega arith in

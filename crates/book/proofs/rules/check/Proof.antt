@@ -2,7 +2,7 @@
 -- Assumes nothing.
 use mathlib.Core.Path.{sym, _∙_}
 use borrow.Author.Needs.{needs}
-use Rattle.format.specs.Check.{Sized}
+use Rattle.format.specs.Check.{RightSize}
 use Rattle.format.specs.Laws.Stages.{Opened, check-tiny, check-edition, check-crowd, check-short, check-long, sized, in-order, check-wrong-pair, check-right-pairs}
 use Rattle.book.proofs.rules.check.Statement.{statement}
 use Rattle.book.proofs.rules.check.Tie as tie
@@ -32,7 +32,7 @@ opened c =
     }
 
 -- and once the size is compared
-fits-size : (c : tie.Else5) → Sized (start (few c) .args .book .now) (read (few c) .people-in .result)
+fits-size : (c : tie.Else5) → RightSize (start (few c) .args .book .now) (read (few c) .people-in .result)
 fits-size c =
     let s : tie.After-size-of = search in
     let short : tie.Else4 = search in

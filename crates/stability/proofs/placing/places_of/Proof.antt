@@ -2,13 +2,13 @@
 -- and all else is 0. The measure is the number of men left. Assumes nothing.
 use Prim.Native.Nat.{_≤_, _-_}
 use native.Mathlib.Omega.{arith}
-use Rattle.stability.specs.Placing.{Placed}
+use Rattle.stability.specs.Placing.{PlacesStored}
 use Rattle.stability.specs.Laws.Placing.{placed-start, placed-on, placed-end, woman-lt, man-cell, woman-cell}
 use Rattle.stability.proofs.placing.places_of.Statement.{statement}
 use Rattle.stability.proofs.placing.places_of.Tie as tie
 
 abbrev Inv-loop : tie.InvT-loop
-Inv-loop n mranks wranks matching men₀ women₀ i₀ men women i = (i ≤ n) × Placed n mranks wranks matching i men women
+Inv-loop n mranks wranks matching men₀ women₀ i₀ men women i = (i ≤ n) × PlacesStored n mranks wranks matching i men women
 
 abbrev μ-loop : tie.MeasureT-loop
 μ-loop n mranks wranks matching men₀ women₀ i₀ men women i = n - i
