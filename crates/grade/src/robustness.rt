@@ -58,7 +58,7 @@ fn grade_in<'a>(
     let mut letters = [0u8; Instance::LARGEST];
     let mut distances = [0usize; Instance::LARGEST];
     let places = judged.places;
-    Graded::Grade(answer_pairs(
+    let all = answer_pairs(
         n,
         mlists,
         mranks,
@@ -67,7 +67,8 @@ fn grade_in<'a>(
         places,
         &mut letters[..],
         &mut distances[..],
-    ))
+    );
+    Graded::Grade(all.grade)
 }
 
 // A refusal as the answer for a matching; where nothing is refused, the grade 0.

@@ -12,6 +12,7 @@ pub mod Covered
 pub mod Round
 pub mod Sum
 pub mod SumLaws
+pub mod CountInto
 pub mod Counting
 pub mod Rising
 pub mod Maximum

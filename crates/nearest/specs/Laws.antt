@@ -1,7 +1,6 @@
--- What the proofs cite: the two pushes, the nearer of them, the places after which nobody is tried, the grade, and the
--- book. Assumes nothing.
+-- What the proofs cite: the two pushes, the nearer of them, the grade, and the book. Assumes nothing.
 pub mod Tried
-pub mod Ends
+pub mod Standin
 pub mod Pushing
 pub mod Nearest
 pub mod Grade

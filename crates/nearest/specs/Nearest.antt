@@ -8,13 +8,12 @@ use Rattle.laws.specs.Values.{vec}
 use Rattle.tables.specs.Lists.{lenIn, Sound}
 use Rattle.format.specs.Format.{largest}
 use Rattle.format.specs.Record.{Record}
-use Rattle.stable_theory.specs.Stable.Market.{Market, exchange}
+use Rattle.stable_theory.specs.Stable.Market.{Market}
 use Rattle.stable_theory.specs.Stable.Vector.{Stable, Mirror}
 use Rattle.stable_theory.specs.Repairs.Repair.{weight}
 use Rattle.stable_theory.specs.Repairs.Answer.{Answer, U, D, F, answerOf}
 use Rattle.matchings.specs.declared.places.Places.{Places}
 use Rattle.instances.specs.Usable.{byMen, byWomen, marketIn}
-use Rattle.nearest.specs.Tried.{Ends}
 use Rattle.nearest.specs.declared.answer.Letter.{Letter}
 use Rattle.nearest.specs.declared.answer.Letter.the-variants.{Up, Down, Fixed}
 use Rattle.nearest.specs.declared.answer.Nearest.{Nearest}
@@ -28,18 +27,9 @@ pub record Given (R : Record) (men women : List ℕ) : Type 0 where
   pub mirror : Mirror (marketIn R) (vec men) (vec women)
   pub placed : {i : ℕ} → i < R .n → vec men i < lenIn (R .n) (R .n) (R .mlists) i
 
--- and a place for each man and woman after which no stable matching has them
-pub record GivenEnds (R : Record) (men women man-ends woman-ends : List ℕ) : Type 0 where
-  pub given : Given R men women
-  pub men-end : Ends (marketIn R) (vec men) (vec man-ends)
-  pub women-end : Ends (exchange (marketIn R)) (vec women) (vec woman-ends)
-
 -- The same of the places of a matching
 abbrev pub GivenIn : Record → Places → Type 0
 GivenIn R p = Given R (p .men) (p .women)
-
-abbrev pub EndsIn : Record → Places → List ℕ → List ℕ → Type 0
-EndsIn R p man-ends woman-ends = GivenEnds R (p .men) (p .women) man-ends woman-ends
 
 -- The letter of an answer, as the code has it
 abbrev pub letterOf : Answer → Letter

@@ -1,29 +1,33 @@
--- A push of a proposer as the code does it, and the distance of what it finds. Assumes nothing.
-use Prim.Native.Nat.{ℕ, _+_, _≤_, _<_}
+-- A push of a proposer as the code does it, which gives up at a bound, and what a number says of a repair. Nearness is
+-- the total weight of those moved, c i being the weight of proposer i. Assumes nothing.
+use Prim.Native.Nat.{ℕ, _≤_, _<_}
 use mathlib.Core.Path.{_≡_}
-use mathlib.Core.Bool.{Bool, true, false}
 use Rattle.stable_theory.specs.Stable.Market.{Market}
-use Rattle.stable_theory.specs.Stable.Vector.{Before, Mirror}
-use Rattle.stable_theory.specs.Repairs.Repair.{Parts, IsDown}
+use Rattle.stable_theory.specs.Stable.Vector.{Mirror, Stable}
+use Rattle.stable_theory.specs.Repairs.Repair.{IsDown, weight, moved}
+use Rattle.stable_theory.specs.Least.Settle.{least, onward}
+use Rattle.laws.specs.Sum.{count}
 
--- What a push of proposer s from p gives: where it is found, v is the repair down and t its other side, and otherwise
--- there is none
-pub record Tries (I : Market) (p : ℕ → ℕ) (s : ℕ) (v t : ℕ → ℕ) (found : Bool) : Type 0 where
-  pub repair : found ≡ true → IsDown I p s v
-  pub mirror : found ≡ true → Mirror I v t
-  pub none : found ≡ false → {k : ℕ → ℕ} → Parts I p s k → Before I p k → ⊥
+-- What a push of proposer s from p that gives up at `stop` says: below stop, `far` is the distance of the repair down,
+-- v is that repair and t its other side; otherwise no repair down is nearer than stop
+pub record Tries (I : Market) (p : ℕ → ℕ) (s stop : ℕ) (v t : ℕ → ℕ) (far : ℕ) : Type 0 where
+  pub repair : far < stop → IsDown I p s v
+  pub mirror : far < stop → Mirror I v t
+  pub distance : far < stop → far ≡ weight I (λ i. 1) p v
+  pub further : stop ≤ far → (d : ℕ → ℕ) → IsDown I p s d → stop ≤ weight I (λ i. 1) p d
+  pub most : far ≤ stop
 
--- The number `far` is k, which is at most n, where a repair is found, and n + 1 where there is none
-pub record Measured (n k : ℕ) (found : Bool) (far : ℕ) : Type 0 where
-  pub yes : found ≡ true → far ≡ k
-  pub most : found ≡ true → far ≤ n
-  pub no : found ≡ false → far ≡ n + 1
+-- What the number `far` says of the repair that Is tells: below stop it is its nearness; otherwise the repair, if there
+-- is one, is no nearer than stop
+pub record Distant (I : Market) (c p : ℕ → ℕ) (Is : (ℕ → ℕ) → Type 0) (stop far : ℕ) : Type 0 where
+  pub near : far < stop → (v : ℕ → ℕ) × Is v × (far ≡ weight I c p v)
+  pub further : stop ≤ far → (d : ℕ → ℕ) → Is d → stop ≤ weight I c p d
 
--- No stable vector has a place of proposer s after `end`, as far as p shows: where p has him there, no stable vector
--- after p moves him
-abbrev pub Last : Market → (ℕ → ℕ) → ℕ → ℕ → Type 0
-Last I p s end = p s ≡ end → (k : ℕ → ℕ) → Parts I p s k → Before I p k → ⊥
-
--- and so of each proposer
-abbrev pub Ends : Market → (ℕ → ℕ) → (ℕ → ℕ) → Type 0
-Ends I p ends = (i : ℕ) → i < I .proposers .size → Last I p i (ends i)
+-- STAND-IN
+pub record PushCounted (I : Market) (p : ℕ → ℕ) (s stop : ℕ) (p′ t′ : ℕ → ℕ) (r : ℕ) : Type 0 where
+  pub places : r < stop → (i : ℕ) → i < I .proposers .size → p′ i ≡ least I (onward p s) i
+  pub stable : r < stop → Stable I p′
+  pub mirror : r < stop → Mirror I p′ t′
+  pub near : r < stop → r ≡ count (I .proposers .size) (moved p (least I (onward p s)))
+  pub far : stop ≤ r → Stable I (least I (onward p s)) → stop ≤ count (I .proposers .size) (moved p (least I (onward p s)))
+  pub most : r ≤ stop

@@ -5,4 +5,6 @@ mod pushes;
 
 pub use answer::Letter;
 pub use answer::Nearest;
+pub use pushes::Vectors;
 pub use pushes::nearest;
+pub use pushes::pushed;

@@ -11,26 +11,26 @@ use tables::wide;
 ghost use mathlib.Core.Path.{_≡_};
 ghost use Prim.Native.Nat.{_≤_, _<_};
 ghost use lib.ListN.{length};
-ghost use Rattle.laws.specs.Moment.{vec₀};
+ghost use Rattle.laws.specs.Moment.{vec₀, vec₁};
 ghost use Rattle.laws.specs.Sum.{count};
 ghost use Rattle.laws.specs.Values.{vec};
 ghost use Rattle.stable_theory.specs.Repairs.Repair.{moved};
-ghost use Rattle.tables.specs.Lists.{Tables, tables, market, Sound};
+ghost use Rattle.tables.specs.Lists.{Tables, tables, market, Sound, Sized};
 ghost use Rattle.proposals.specs.Push.{Pushable};
 ghost use Rattle.format.specs.Record.{Record, lent};
-ghost use Rattle.nearest.specs.Tried.{Last, Tries, Measured};
-ghost use Rattle.nearest.specs.Nearest.{GivenEnds, ShowsFor};
+ghost use Rattle.nearest.specs.Tried.{Tries, PushCounted};
+ghost use Rattle.nearest.specs.Nearest.{Given, ShowsFor};
 
-// What a push leaves: whether it ended in a stable matching, and the two vectors.
-struct Vectors {
-    found: bool,
-    proposers: [u16; Instance::LARGEST],
-    receivers: [u16; Instance::LARGEST],
+// What a push leaves: how far the repair is that it found, and the two vectors.
+pub struct Vectors {
+    pub far: usize,
+    pub proposers: [u16; Instance::LARGEST],
+    pub receivers: [u16; Instance::LARGEST],
 }
 
-// Pushes proposer s on by one place, from copies of the two vectors, unless he stands at `end`, after which no stable
-// matching has him.
-fn pushed<'a>(
+// Pushes proposer s on by one place, from copies of the two vectors. It gives up where the repair is no nearer than
+// `stop`.
+pub fn pushed<'a>(
     n: usize,
     plists: &'a [u16],
     rlists: &'a [u16],
@@ -38,24 +38,17 @@ fn pushed<'a>(
     p: [u16; Instance::LARGEST],
     t: [u16; Instance::LARGEST],
     s: usize,
-    end: u16,
+    stop: usize,
 ) -> Vectors
     ghost { Tables }
     requires { λ K. ⌜ tables n n plists rlists ranks ≡ K ⌝ }
     requires { λ K. ⌜ Sound K × (n ≤ length p) ⌝ }
-    requires { λ K. ⌜ Pushable (market K) (vec p) (vec t) s × Last (market K) (vec p) s end ⌝ }
-    ensures { λ K r. ⌜ Tries (market K) (vec p) s (vec (r .proposers)) (vec (r .receivers)) (r .found) ⌝ }
+    requires { λ K. ⌜ Pushable (market K) (vec p) (vec t) s ⌝ }
+    ensures { λ K r. ⌜ Tries (market K) (vec p) s stop (vec (r .proposers)) (vec (r .receivers)) (r .far) ⌝ }
 {
-    if p[s] == end {
-        return Vectors {
-            found: false,
-            proposers: p,
-            receivers: t,
-        };
-    }
     let mut proposers = p;
     let mut receivers = t;
-    let found = push(
+    let far = push_count(
         n,
         n,
         plists,
@@ -63,13 +56,44 @@ fn pushed<'a>(
         ranks,
         &mut proposers[..n],
         &mut receivers[..n],
+        &p[..n],
         s,
+        stop,
     );
     Vectors {
-        found,
+        far,
         proposers,
         receivers,
     }
+}
+
+// STAND-IN
+fn push_count<'a>(
+    a: usize,
+    b: usize,
+    plists: &'a [u16],
+    rlists: &'a [u16],
+    ranks: &'a [u16],
+    p: &mut [u16],
+    t: &mut [u16],
+    was: &[u16],
+    s: usize,
+    stop: usize,
+) -> usize
+    ghost { Tables }
+    requires { λ K. ⌜ tables a b plists rlists ranks ≡ K ⌝ }
+    requires { λ K. ⌜ Sound K ⌝ }
+    requires { λ _. ⌜ Sized a b (now p) (now t) ⌝ }
+    requires { λ K. ⌜ Pushable (market K) (vec (now p)) (vec (now t)) s ⌝ }
+    requires { λ _. ⌜ now was ≡ now p ⌝ }
+    ensures { λ K r. ⌜ PushCounted (market K) (vec₀ p) s stop (vec₁ p) (vec₁ t) r ⌝ }
+{
+    let found = push(a, b, plists, rlists, ranks, p, t, s);
+    if !found {
+        return stop;
+    }
+    let far = count_moved(a, was, p);
+    if far < stop { far } else { stop }
 }
 
 // How many of the first n entries differ.
@@ -88,20 +112,8 @@ fn count_moved(n: usize, old: &[u16], new: &[u16]) -> usize
     found
 }
 
-// The distance of a repair, or n + 1 where there is none.
-fn distance(n: usize, found: bool, old: &[u16], new: &[u16]) -> usize
-    requires { ⌜ (n ≤ length (now old)) × (n ≤ length (now new)) ⌝ }
-    requires { ⌜ n < 65536 ⌝ }
-    ensures { λ r. ⌜ Measured n (count n (moved (vec₀ old) (vec₀ new))) found r ⌝ }
-{
-    if found {
-        return count_moved(n, old, new);
-    }
-    n + 1
-}
-
-// The nearest repair of the pair of man s: down by a push of him, up by a push of his woman on the other side, up
-// where both are as near.
+// The nearest repair of the pair of man s: up by a push of his woman on the other side, down by a push of him, which
+// gives up where it is no nearer; up where both are as near.
 pub fn nearest<'a>(
     n: usize,
     mlists: &'a [u16],
@@ -110,22 +122,18 @@ pub fn nearest<'a>(
     wranks: &'a [u16],
     men: [u16; Instance::LARGEST],
     women: [u16; Instance::LARGEST],
-    man_ends: [u16; Instance::LARGEST],
-    woman_ends: [u16; Instance::LARGEST],
     s: usize,
 ) -> Nearest
     ghost { Record }
     requires { λ R. ⌜ lent n mlists mranks wlists wranks ≡ R ⌝ }
-    requires { λ R. ⌜ GivenEnds R men women «man_ends» «woman_ends» × (s < n) ⌝ }
+    requires { λ R. ⌜ Given R men women × (s < n) ⌝ }
     ensures { λ R r. ⌜ ShowsFor R (vec men) s r ⌝ }
 {
     let w = list_at(mlists, n, s, wide(men[s]));
-    let man_end = man_ends[s];
-    let woman_end = woman_ends[w];
-    let down = pushed(n, mlists, wlists, wranks, men, women, s, man_end);
-    let up = pushed(n, wlists, mlists, mranks, women, men, w, woman_end);
-    let below = distance(n, down.found, &men, &down.proposers);
-    let above = distance(n, up.found, &men, &up.receivers);
+    let up = pushed(n, wlists, mlists, mranks, women, men, w, n + 1);
+    let above = up.far;
+    let down = pushed(n, mlists, wlists, wranks, men, women, s, above);
+    let below = down.far;
     if below < above {
         let places = down.proposers;
         return Nearest {

@@ -1,5 +1,5 @@
--- The letters and the distances of the answers for all pairs, as the code collects them over a record's tables, and
--- the grade. Assumes nothing.
+-- The letters and the distances of the answers for all pairs, as the code collects them over a record's tables, the
+-- grade, and the number of rotations. Assumes nothing.
 use Prim.Native.Nat.{ℕ, _≤_, _<_}
 use mathlib.Core.Path.{_≡_}
 use mathlib.Core.List.{List}
@@ -8,35 +8,29 @@ use Rattle.laws.specs.Maximum.{maximum}
 use Rattle.laws.specs.Values.{vec}
 use Rattle.format.specs.Record.{Record}
 use Rattle.stable_theory.specs.Stable.Market.{Market}
-use Rattle.stable_theory.specs.Repairs.Answer.{answerOf}
+use Rattle.stable_theory.specs.Repairs.Answer.{Answer, U, D, F, answerOf}
+use Rattle.stable_theory.specs.Rotations.Numbering.{total}
 use Rattle.matchings.specs.declared.places.Places.{Places}
 use Rattle.instances.specs.Usable.{marketIn}
-use Rattle.nearest.specs.declared.answer.Letter.{Letter}
-use Rattle.nearest.specs.declared.answer.Letter.the-variants.{Up, Down, Fixed}
-use Rattle.nearest.specs.declared.answer.Nearest.{Nearest}
-use Rattle.nearest.specs.Nearest.{Shows, costs}
+use Rattle.nearest.specs.Nearest.{farOf, costs}
+use Rattle.pair_answers.specs.declared.answers.Summary.{Summary}
 
--- The letter as a byte: U, D or F
-abbrev pub letterByte : Letter → ℕ
-letterByte Up = 85
-letterByte Down = 68
-letterByte Fixed = 70
+-- The letter of an answer as a byte: U, D or F
+abbrev pub letterByte : Answer → ℕ
+letterByte (U v) = 85
+letterByte (D v) = 68
+letterByte F = 70
 
 -- At index s the two lists have the letter and the distance of the answer for the pair of s
 pub record AnswerAt (I : Market) (p : ℕ → ℕ) (letters distances : List ℕ) (s : ℕ) : Type 0 where
-  pub near : Nearest
-  pub shows : Shows I p (answerOf I (λ i. 1) p s) near
-  pub letter : vec letters s ≡ letterByte (near .letter)
-  pub distance : vec distances s ≡ near .distance
+  pub letter : vec letters s ≡ letterByte (answerOf I (λ i. 1) p s)
+  pub distance : vec distances s ≡ farOf I p (answerOf I (λ i. 1) p s)
 
--- and so at each index below k, of n in all
-pub record Answered (I : Market) (p : ℕ → ℕ) (n k : ℕ) (letters distances : List ℕ) : Type 0 where
-  pub within : k ≤ n
-  pub letters-long : n ≤ length letters
-  pub distances-long : n ≤ length distances
-  pub at : {s : ℕ} → s < k → AnswerAt I p letters distances s
-
--- All pairs of the matching with these places, over a record: their letters and distances, and the largest cost
-pub record PairsAnswered (R : Record) (p : Places) (letters distances : List ℕ) (grade : ℕ) : Type 0 where
-  pub pairs : Answered (marketIn R) (vec (p .men)) (R .n) (R .n) letters distances
-  pub largest-cost : grade ≡ maximum (R .n) (costs (marketIn R) (vec (p .men)))
+-- All pairs of the matching with these places, over a record: their letters and distances, the largest cost, and how
+-- many rotations there are
+pub record PairsAnswered (R : Record) (p : Places) (letters distances : List ℕ) (r : Summary) : Type 0 where
+  pub letters-long : R .n ≤ length letters
+  pub distances-long : R .n ≤ length distances
+  pub at : {s : ℕ} → s < R .n → AnswerAt (marketIn R) (vec (p .men)) letters distances s
+  pub largest-cost : r .grade ≡ maximum (R .n) (costs (marketIn R) (vec (p .men)))
+  pub all-rotations : r .rotations ≡ total (marketIn R)

@@ -1,75 +1,29 @@
-// The letter and the distance of the answer for each pair of a stable matching, and the grade.
+// The letter and the distance of the answer for each pair of a stable matching, the grade, and the number of rotations.
+use crate::groups::group;
+use crate::letters::fill_answers;
+use crate::measures::bound_down;
+use crate::measures::measure_down;
+use crate::measures::measure_up;
 use crate::robustness::grade_of;
-use extremes::man_optimal_places;
-use extremes::woman_optimal_places;
 use format::Instance;
 use matchings::Places;
-use nearest::Letter;
-use nearest::nearest;
 ghost use mathlib.Core.Path.{_≡_};
 ghost use Prim.Native.Nat.{_≤_};
 ghost use lib.ListN.{length};
 ghost use Rattle.laws.specs.Moment.{now₁};
-ghost use Rattle.laws.specs.Values.{vec};
 ghost use Rattle.format.specs.Record.{Record, lent};
-ghost use Rattle.instances.specs.Usable.{Usable, marketIn};
-ghost use Rattle.nearest.specs.Nearest.{GivenEnds, GivenIn};
-ghost use Rattle.pair_answers.specs.Answered.{letterByte, Answered, PairsAnswered};
+ghost use Rattle.instances.specs.Usable.{Usable};
+ghost use Rattle.nearest.specs.Nearest.{GivenIn};
+ghost use Rattle.pair_answers.specs.Answered.{PairsAnswered};
 
-// The letter as a byte.
-fn letter_byte(letter: Letter) -> u8
-    ensures { λ r. ⌜ r ≡ letterByte letter ⌝ }
-{
-    match letter {
-        Letter::Up => b'U',
-        Letter::Down => b'D',
-        Letter::Fixed => b'F',
-    }
+// The grade of a matching, and the number of rotations.
+pub struct Summary {
+    pub grade: usize,
+    pub rotations: usize,
 }
 
-// The letter and the distance of the answer for each of n men.
-fn fill_answers<'a>(
-    n: usize,
-    mlists: &'a [u16],
-    mranks: &'a [u16],
-    wlists: &'a [u16],
-    wranks: &'a [u16],
-    men: [u16; Instance::LARGEST],
-    women: [u16; Instance::LARGEST],
-    man_ends: [u16; Instance::LARGEST],
-    woman_ends: [u16; Instance::LARGEST],
-    letters: &mut [u8],
-    distances: &mut [usize],
-)
-    ghost { Record }
-    requires { λ R. ⌜ lent n mlists mranks wlists wranks ≡ R ⌝ }
-    requires { λ R. ⌜ GivenEnds R men women «man_ends» «woman_ends» ⌝ }
-    requires { λ _. ⌜ (n ≤ length (now letters)) × (n ≤ length (now distances)) ⌝ }
-    ensures { λ R _. ⌜ Answered (marketIn R) (vec men) n n (now₁ letters) (now₁ distances) ⌝ }
-{
-    let mut s = 0;
-    while s < n {
-        let found = nearest(
-            n,
-            mlists,
-            mranks,
-            wlists,
-            wranks,
-            men,
-            women,
-            man_ends,
-            woman_ends,
-            s,
-        );
-        let letter = found.letter;
-        letters[s] = letter_byte(letter);
-        distances[s] = found.distance;
-        s += 1;
-    }
-}
-
-// The letter and the distance of the answer for each pair, to the fronts of the two slices, and the grade. Nobody is
-// tried past his place in the extreme matching of the other side.
+// The letter and the distance of the answer for each pair, to the fronts of the two slices, the grade and the number of
+// rotations. One push up and one down serve all men whose pairs have the same repair.
 pub fn answer_pairs<'a>(
     n: usize,
     mlists: &'a [u16],
@@ -79,7 +33,7 @@ pub fn answer_pairs<'a>(
     places: Places,
     letters: &mut [u8],
     distances: &mut [usize],
-) -> usize
+) -> Summary
     ghost { Record }
     requires { λ R. ⌜ lent n mlists mranks wlists wranks ≡ R ⌝ }
     requires { λ R. ⌜ Usable R × GivenIn R places ⌝ }
@@ -88,11 +42,13 @@ pub fn answer_pairs<'a>(
 {
     let men = places.men;
     let women = places.women;
-    let worst = woman_optimal_places(n, mlists, mranks, wlists);
-    let best = man_optimal_places(n, mlists, wlists, wranks);
-    let man_ends = worst.men;
-    let woman_ends = best.women;
-    fill_answers(
+    let groups = group(n, mlists, mranks, wlists, wranks, men);
+    let down = groups.down;
+    let up = groups.up;
+    let mut above = [0usize; Instance::LARGEST];
+    let mut bound = [0usize; Instance::LARGEST];
+    let mut below = [0usize; Instance::LARGEST];
+    measure_up(
         n,
         mlists,
         mranks,
@@ -100,10 +56,25 @@ pub fn answer_pairs<'a>(
         wranks,
         men,
         women,
-        man_ends,
-        woman_ends,
-        letters,
-        distances,
+        &up,
+        &mut above[..],
     );
-    grade_of(distances, n)
+    bound_down(n, &down, &up, &above, &mut bound[..]);
+    measure_down(
+        n,
+        mlists,
+        mranks,
+        wlists,
+        wranks,
+        men,
+        women,
+        &down,
+        &bound,
+        &mut below[..],
+    );
+    fill_answers(n, &down, &up, &below, &above, letters, distances);
+    Summary {
+        grade: grade_of(distances, n),
+        rotations: groups.rotations,
+    }
 }

@@ -87,19 +87,7 @@ fn repair_in<'a>(
     let places = judged.places;
     let men = places.men;
     let women = places.women;
-    let none = [65535u16; Instance::LARGEST];
-    let found = nearest(
-        n,
-        mlists,
-        mranks,
-        wlists,
-        wranks,
-        men,
-        women,
-        none,
-        none,
-        asking,
-    );
+    let found = nearest(n, mlists, mranks, wlists, wranks, men, women, asking);
     repair_answer::answer(n, mlists, men, found, out, gains)
 }
 

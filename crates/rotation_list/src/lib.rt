@@ -1,7 +1,4 @@
-// The list of rotations of a book. `list` takes bytes and has no `requires`; `count` works on the record of a book that
-// is loaded already.
-mod counting;
+// The list of rotations of a book. `list` takes bytes and has no `requires`.
 mod listing;
 
-pub use counting::count;
 pub use listing::list;

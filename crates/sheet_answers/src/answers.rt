@@ -2,7 +2,6 @@
 use format::Instance;
 use matchings::Places;
 use pair_answers::answer_pairs;
-use rotation_list::count;
 use sheet_text::put_pairs;
 use sheet_text::put_top;
 ghost use mathlib.Core.Path.{_≡_};
@@ -34,7 +33,7 @@ pub fn put_answers<'a>(
 {
     let mut letters = [0u8; Instance::LARGEST];
     let mut distances = [0usize; Instance::LARGEST];
-    let grade = answer_pairs(
+    let all = answer_pairs(
         n,
         mlists,
         mranks,
@@ -44,7 +43,6 @@ pub fn put_answers<'a>(
         &mut letters[..],
         &mut distances[..],
     );
-    let rotations = count(n, mlists, mranks, wlists, wranks);
-    let end = put_top(text, 0, n, rotations, grade);
+    let end = put_top(text, 0, n, all.rotations, all.grade);
     put_pairs(text, end, n, matching, &letters[..], &distances[..])
 }

@@ -9,3 +9,4 @@ pub mod AnswerAlike
 pub mod RobustLaws
 pub mod Demand3Theory
 pub mod Shared
+pub mod BothSides

@@ -1,7 +1,7 @@
 -- The nearest repair over the record of a book is that of the book: what the check of a matching leaves is what the
 -- search asks, and what the search finds is the answer for the bytes. Assumes nothing.
 use Prim.Native.Nat.{ℕ, _≤_, _<_}
-use mathlib.Core.Path.{_≡_, subst}
+use mathlib.Core.Path.{_≡_, subst, _∙_}
 use mathlib.Core.List.{List}
 use native.Mathlib.Omega.{arith}
 use lib.ListN.{length}
@@ -19,6 +19,7 @@ use Rattle.stable_theory.specs.Stable.Holder.{mirror}
 use Rattle.stable_theory.specs.Stable.Mirror.{mirror-of}
 use Rattle.stable_theory.specs.Stable.Alike.{Alike, alike-sym, alike-exchange, same-alike, stable-alike, mirror-alike}
 use Rattle.stable_theory.specs.Matchings.Perfect.{stable-full}
+use Rattle.stable_theory.specs.Repairs.Answer.{answerOf, SameAnswer}
 use Rattle.stable_theory.specs.Repairs.AnswerAlike.{answer-alike}
 use Rattle.matchings.specs.declared.places.Judged.{Judged}
 use Rattle.matchings.specs.BookMarket.{market, market-proper}
@@ -31,8 +32,8 @@ use Rattle.stability.specs.Laws.Judged.{BookJudged}
 use Rattle.nearest.specs.declared.answer.Nearest.{Nearest}
 use Rattle.repairs.specs.Repair.{answerFor}
 use Rattle.repairs.specs.Grade.{gradeOf}
-use Rattle.nearest.specs.Laws.Grade.{costs-alike}
-use Rattle.nearest.specs.Nearest.{GivenIn, costs, Shows, ShowsFor}
+use Rattle.nearest.specs.Laws.Grade.{far-same, far-alike, costs-alike}
+use Rattle.nearest.specs.Nearest.{GivenIn, farOf, costs, Shows, ShowsFor}
 use Rattle.nearest.specs.Laws.Nearest.{shows-same, shows-alike}
 
 module _ {b m : List ℕ} {R : Record} {j : Judged} (J : BookJudged b m R j) (f : checkMatching b m ≡ fine) where
@@ -88,12 +89,19 @@ module _ {b m : List ℕ} {R : Record} {j : Judged} (J : BookJudged b m R j) (f 
         placed = λ u. given-placed u;
       }
 
-  -- what the search says over the record is the answer for the bytes
-  pub shows-book : {s : ℕ} {r : Nearest} → s < R .n → ShowsFor R (vec (j .places .men)) s r → Shows (market b) (vectorOf b m) (answerFor b m s) r
-  shows-book {s} u S =
+  -- the answer over the record is the answer for the bytes
+  pub answer-book : {s : ℕ} → s < R .n → SameAnswer (marketIn R) (answerOf (marketIn R) (λ i. 1) (vec (j .places .men)) s) (answerFor b m s)
+  answer-book u =
       let M = judged-usable .men .proper in
-      shows-alike judged-alike judged-men (answerFor b m s)
-      (shows-same (answer-alike M (market-proper judged-formed) judged-alike (λ i. 1) judged-men given-stable (hold-at M (vec (j .places .men)) u (given-placed u))) S)
+      answer-alike M (market-proper judged-formed) judged-alike (λ i. 1) judged-men given-stable (hold-at M (vec (j .places .men)) u (given-placed u))
+
+  -- so are its distance
+  pub far-book : {s : ℕ} → s < R .n → farOf (marketIn R) (vec (j .places .men)) (answerOf (marketIn R) (λ i. 1) (vec (j .places .men)) s) ≡ farOf (market b) (vectorOf b m) (answerFor b m s)
+  far-book {s} u = far-same (vec (j .places .men)) (answer-book u) ∙ far-alike judged-alike judged-men (answerFor b m s)
+
+  -- and what the search says
+  pub shows-book : {s : ℕ} {r : Nearest} → s < R .n → ShowsFor R (vec (j .places .men)) s r → Shows (market b) (vectorOf b m) (answerFor b m s) r
+  shows-book {s} u S = shows-alike judged-alike judged-men (answerFor b m s) (shows-same (answer-book u) S)
 
   -- and the largest cost over the record is the grade
   pub grade-book : maximum (R .n) (costs (marketIn R) (vec (j .places .men))) ≡ gradeOf b m

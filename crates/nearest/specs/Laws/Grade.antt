@@ -12,12 +12,12 @@ use Rattle.stable_theory.specs.Repairs.AnswerAlike.{weight-alike, answer-alike}
 use Rattle.nearest.specs.Nearest.{farOf, costs}
 
 -- the same answer counts the same
-far-same : {I : Market} (p : ℕ → ℕ) {a b : Answer} → SameAnswer I a b → farOf I p a ≡ farOf I p b
+pub far-same : {I : Market} (p : ℕ → ℕ) {a b : Answer} → SameAnswer I a b → farOf I p a ≡ farOf I p b
 far-same {I} p (same-up {u} {v} e) = weight-same I (λ i. 1) p u v e
 far-same {I} p (same-down {u} {v} e) = weight-same I (λ i. 1) p u v e
 far-same p same-fixed = refl
 
-far-alike : {I J : Market} (A : Alike I J) {p q : ℕ → ℕ} (e : Same I p q) (a : Answer) → farOf I p a ≡ farOf J q a
+pub far-alike : {I J : Market} (A : Alike I J) {p q : ℕ → ℕ} (e : Same I p q) (a : Answer) → farOf I p a ≡ farOf J q a
 far-alike A e (U v) = weight-alike A e (λ i. 1) v v (λ i u. refl)
 far-alike A e (D v) = weight-alike A e (λ i. 1) v v (λ i u. refl)
 far-alike A e F = refl

@@ -3,10 +3,8 @@
 use Prim.Native.Nat.{ℕ, _+_, _≤_, _<_, _*_}
 use mathlib.Core.Path.{_≡_, refl, _∙_}
 use mathlib.Core.List.{List}
-use mathlib.Core.Bool.{Bool}
 use native.Mathlib.Omega.{arith}
 use lib.ListN.{length}
-use Rattle.laws.specs.Sum.{count}
 use Rattle.laws.specs.Values.{vec}
 use Rattle.format.specs.Format.{largest}
 use Rattle.stable_theory.specs.Stable.Market.{Market, exchange}
@@ -14,7 +12,7 @@ use Rattle.stable_theory.specs.Stable.Vector.{Holds}
 use Rattle.stable_theory.specs.Stable.Holding.{Same, hold-at}
 use Rattle.stable_theory.specs.Stable.Alike.{Alike}
 use Rattle.stable_theory.specs.Stable.Mirror.{mirror-back, stable-across}
-use Rattle.stable_theory.specs.Repairs.Repair.{IsDown, IsUp, moved, weight}
+use Rattle.stable_theory.specs.Repairs.Repair.{IsUp, weight}
 use Rattle.stable_theory.specs.Repairs.Moves.{weight-same}
 use Rattle.stable_theory.specs.Repairs.Answer.{Answer, U, D, F, answerOf, Answers, SameAnswer, same-up, same-down, same-fixed}
 use Rattle.stable_theory.specs.Repairs.AnswerLaws.{answer-of, answer-unique}
@@ -26,8 +24,8 @@ use Rattle.instances.specs.Usable.{marketIn}
 use Rattle.proposals.specs.Push.{Pushable}
 use Rattle.nearest.specs.declared.answer.Letter.the-variants.{Up, Down, Fixed}
 use Rattle.nearest.specs.declared.answer.Nearest.{Nearest}
-use Rattle.nearest.specs.Tried.{Tries, Measured}
-use Rattle.nearest.specs.Laws.Tried.{Reached, reached-down, reached-up, answers-down, answers-up, answers-fixed}
+use Rattle.nearest.specs.Tried.{Tries, Distant}
+use Rattle.nearest.specs.Laws.Tried.{weight-most, distant-down, repair-up, distance-up, distant-up, answers-down, answers-up, answers-fixed}
 use Rattle.nearest.specs.Nearest.{Given, Shows}
 
 -- the same answer, said so too
@@ -82,34 +80,37 @@ module _ {R : Record} {men women : List ℕ} (G : Given R men women) {s : ℕ} (
           placed = let h = G .mirror .there hold in omega (arith, h .is, h .pair .lists);
         }
 
-    module _ {d t v x : ℕ → ℕ} {found there : Bool} {below above : ℕ}
-        (A : Tries I (vec men) s d t found) (B : Tries (exchange I) (vec women) w v x there)
-        (K : Measured n (count n (moved (vec men) d)) found below) (L : Measured n (count n (moved (vec men) x)) there above) where
-      down-side : Reached I (vec men) (IsDown I (vec men) s) d below
-      unfolding weight
-      down-side = reached-down A K
+    -- an answer that is right is the one that is worked out
+    pub right : {a : Answer} → Answers I (λ i. 1) (vec men) s a → SameAnswer I a (answerOf I (λ i. 1) (vec men) s)
+    right X = answer-unique X (answer-of (G .by-men .proper) (λ i. 1) (G .stable) hold)
 
-      up-side : Reached I (vec men) (IsUp I (vec men) s) x above
-      unfolding weight
-      up-side = reached-up (G .by-men .proper) (G .stable) (G .mirror) hold B L
+    -- a push of w on the women's side says how near the repair up is
+    pub up-distant : {v x : ℕ → ℕ} {stop far : ℕ} → Tries (exchange I) (vec women) w stop v x far → Distant I (λ i. 1) (vec men) (IsUp I (vec men) s) stop far
+    up-distant B = distant-up (G .by-men .proper) (G .stable) (G .mirror) hold B
 
-      -- an answer that is right is the one that is worked out
-      right : {a : Answer} {r : Nearest} → Answers I (λ i. 1) (vec men) s a → Shows I (vec men) a r → Shows I (vec men) (answerOf I (λ i. 1) (vec men) s) r
-      right X S = shows-same (answer-unique X (answer-of (G .by-men .proper) (λ i. 1) (G .stable) hold)) S
+    module _ {d t v x : ℕ → ℕ} {above below : ℕ} (B : Tries (exchange I) (vec women) w (n + 1) v x above) (A : Tries I (vec men) s above d t below) where
+      -- nobody is moved farther than n
+      most : (k : ℕ → ℕ) → weight I (λ i. 1) (vec men) k < n + 1
+      most k = omega (arith, weight-most I (vec men) k)
 
       -- the three answers of the code
       pub says-down : {places : List ℕ} → ((i : ℕ) → i < n → vec places i ≡ d i) → length places ≡ largest → below < above →
           Shows I (vec men) (answerOf I (λ i. 1) (vec men) s) (record { letter = Down; distance = below; men = places })
       says-down e h l =
-          right (answers-down up-side down-side l)
-          (record { letter = refl; distance = down-side .distance (omega (arith, up-side .most)); places = e; long = h })
+          shows-same (right (answers-down most (up-distant B) (distant-down A) (omega arith) (A .repair l) (A .distance l) l))
+          (record { letter = refl; distance = A .distance l; places = e; long = h })
 
       pub says-fixed : length men ≡ largest → above ≤ below → n < above →
           Shows I (vec men) (answerOf I (λ i. 1) (vec men) s) (record { letter = Fixed; distance = 0; men = men })
       says-fixed h l f =
-          right (answers-fixed up-side down-side l f) (record { letter = refl; distance = refl; places = λ i v. refl; long = h })
+          shows-same (right (answers-fixed most (up-distant B) (distant-down A) (omega arith) l (omega arith)))
+          (record { letter = refl; distance = refl; places = λ i v. refl; long = h })
 
       pub says-up : {places : List ℕ} → ((i : ℕ) → i < n → vec places i ≡ x i) → length places ≡ largest → above ≤ below → above ≤ n →
           Shows I (vec men) (answerOf I (λ i. 1) (vec men) s) (record { letter = Up; distance = above; men = places })
       says-up e h l f =
-          right (answers-up up-side down-side l f) (record { letter = refl; distance = up-side .distance f; places = e; long = h })
+          let g : above < n + 1 = omega arith in
+          let X = repair-up (G .by-men .proper) (G .stable) (G .mirror) hold B g in
+          let q = distance-up (G .by-men .proper) (G .stable) (G .mirror) hold B g in
+          shows-same (right (answers-up most (up-distant B) (distant-down A) (omega arith) X q l))
+          (record { letter = refl; distance = q; places = e; long = h })

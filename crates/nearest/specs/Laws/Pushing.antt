@@ -2,7 +2,6 @@
 use Prim.Native.Nat.{ℕ, _≤_}
 use mathlib.Core.Path.{_≡_, sym, _∙_}
 use mathlib.Core.List.{List, _++_}
-use mathlib.Core.Bool.{Bool}
 use native.Mathlib.Omega.{arith}
 use lib.ListN.{length, take, drop, List·getD-append}
 use lib.Seq.{getD-take, length-take-le}
@@ -11,9 +10,9 @@ use Rattle.stable_theory.specs.Stable.Market.{Market, Proper, exchange}
 use Rattle.stable_theory.specs.Stable.Holding.{Same, stable-same, hold-at}
 use Rattle.stable_theory.specs.Stable.Alike.{alike-refl, mirror-alike}
 use Rattle.tables.specs.Lists.{Sized}
-use Rattle.proposals.specs.Push.{Pushable, Pushed}
-use Rattle.nearest.specs.Tried.{Tries}
-use Rattle.nearest.specs.Laws.Tried.{pushed-tries, tries-same}
+use Rattle.proposals.specs.Push.{Pushable}
+use Rattle.nearest.specs.Tried.{Tries, PushCounted}
+use Rattle.nearest.specs.Laws.Tried.{counted-tries, tries-same}
 
 -- the front of a list has its entries
 front-same : (I : Market) (l : List ℕ) → Same I (vec l) (vec (take (I .proposers .size) l))
@@ -39,13 +38,13 @@ module _ {I : Market} (M : Proper I) (p t : List ℕ) (long : (I .proposers .siz
           placed = omega (arith, front-same I p s (P .proposer), P .placed);
         }
 
-    -- what the push gives there it gives of the whole
+    -- what the push says there it says of the whole
     pub front-tries :
-        (x y : List ℕ) {found : Bool} →
+        (x y : List ℕ) {stop far : ℕ} →
         length x ≡ length (take (I .proposers .size) p) → length y ≡ length (take (I .receivers .size) t) →
-        Pushed I (vec (take (I .proposers .size) p)) s (vec x) (vec y) found →
-        Tries I (vec p) s (vec (x ++ drop (I .proposers .size) p)) (vec (y ++ drop (I .receivers .size) t)) found
+        PushCounted I (vec (take (I .proposers .size) p)) s stop (vec x) (vec y) far →
+        Tries I (vec p) s stop (vec (x ++ drop (I .proposers .size) p)) (vec (y ++ drop (I .receivers .size) t)) far
     front-tries x y e f R =
         let h = hold-at M (vec (take (I .proposers .size) p)) (P .proposer) (front-pushable .placed) in
         tries-same (P .proposer) (λ i u. sym (front-same I p i u)) (back-same I x _ (e ∙ front-sized .places))
-        (back-same (exchange I) y _ (f ∙ front-sized .bests)) (pushed-tries M (front-pushable .stable) h R)
+        (back-same (exchange I) y _ (f ∙ front-sized .bests)) (counted-tries M (front-pushable .stable) h R)

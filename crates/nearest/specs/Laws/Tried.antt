@@ -1,99 +1,124 @@
--- A push on one side gives the repair on that side, or there is none. Assumes nothing.
+-- A push on one side gives the repair on that side, or says how near it is not; and the nearer of the two repairs is
+-- the answer. Assumes nothing.
 use Prim.Native.Nat.{ℕ, _+_, _≤_, _<_}
-use mathlib.Core.Path.{_≡_, refl, sym}
-use mathlib.Core.Bool.{Bool, true, false}
+use mathlib.Core.Path.{_≡_, refl, sym, _∙_}
 use native.Mathlib.Omega.{arith}
-use Rattle.laws.specs.Choice.{split, tested}
-use Rattle.stable_theory.specs.Stable.Market.{Market, Proper, exchange}
+use Rattle.laws.specs.Choice.{split}
+use Rattle.laws.specs.SumLaws.{count-most}
+use Rattle.stable_theory.specs.Stable.Market.{Market, Proper, exchange, exchanged}
 use Rattle.stable_theory.specs.Stable.Vector.{Holds, Stable, Mirror}
 use Rattle.stable_theory.specs.Stable.Holding.{Same, stable-same}
-use Rattle.stable_theory.specs.Stable.Mirror.{mirror-of, mirror-back, mirror-order}
+use Rattle.stable_theory.specs.Stable.Mirror.{mirror-of, mirror-back, mirror-order, stable-across}
 use Rattle.stable_theory.specs.Stable.Alike.{alike-refl, mirror-alike}
-use Rattle.stable_theory.specs.Least.Rejected.{onward-before}
-use Rattle.stable_theory.specs.Repairs.Repair.{IsDown, IsUp, down, weight}
-use Rattle.stable_theory.specs.Repairs.RepairLaws.{down-is, down-unique, up-unique, parts-across, down-across}
-use Rattle.stable_theory.specs.Repairs.Moves.{weight-same}
+use Rattle.stable_theory.specs.Repairs.Repair.{IsDown, IsUp, down, moved, weight, distance}
+use Rattle.stable_theory.specs.Repairs.RepairLaws.{down-is, down-exists, down-unique, up-unique, parts-across, down-across}
+use Rattle.stable_theory.specs.Repairs.Moves.{weight-same, distance-weight}
+use Rattle.stable_theory.specs.Repairs.BothSides.{distance-both}
 use Rattle.stable_theory.specs.Repairs.Answer.{U, D, F, Answers, nearer-up, nearer-down, neither}
-use Rattle.stable_theory.specs.Repairs.AnswerAlike.{down-alike}
-use Rattle.proposals.specs.Push.{Pushed}
-use Rattle.nearest.specs.Tried.{Tries, Measured}
+use Rattle.stable_theory.specs.Repairs.AnswerAlike.{down-alike, weight-alike}
+use Rattle.nearest.specs.Tried.{Tries, Distant, PushCounted}
 
-module _ {I : Market} (M : Proper I) {p : ℕ → ℕ} {s w : ℕ} (P : Stable I p) (h : Holds I p s w) {v t : ℕ → ℕ} {found : Bool} where
-  -- the answer of the kernel says so
-  pub pushed-tries : Pushed I p s v t found → Tries I p s v t found
-  unfolding down
-  pushed-tries R =
+-- no more than all are moved
+pub weight-most : (I : Market) (p v : ℕ → ℕ) → weight I (λ i. 1) p v ≤ I .proposers .size
+unfolding weight
+weight-most I p v = count-most (I .proposers .size) (moved p v)
+
+-- p is stable and s holds w
+module _ {I : Market} (M : Proper I) {p : ℕ → ℕ} {s w : ℕ} (P : Stable I p) (h : Holds I p s w) {v t : ℕ → ℕ} {stop far : ℕ} where
+  -- the answer of the kernel says so: where there is a repair down, it is the least settled vector after s goes on
+  pub counted-tries : PushCounted I p s stop v t far → Tries I p s stop v t far
+  unfolding down weight
+  counted-tries R =
+      let same : far < stop → Same I (down I p s) v = λ z i u. sym (R .places z i u) in
       record {
-        repair = λ e.
-            let same : Same I (down I p s) v = λ i u. sym (R .least e i u) in
-            down-alike (alike-refl I) (λ i u. refl) (h .pair .proposer) same (down-is M P h (stable-same v (down I p s) (R .least e) (R .stable e)));
-        mirror = λ e. R .mirror e;
-        none = λ e {k} K le. R .none e k (K .stable) (onward-before I p k s (omega (arith, K .without, le s (h .pair .proposer))) le);
+        repair = λ z. down-alike (alike-refl I) (λ i u. refl) (h .pair .proposer) (same z) (down-is M P h (stable-same v (down I p s) (R .places z) (R .stable z)));
+        mirror = λ z. R .mirror z;
+        distance = λ z. R .near z ∙ weight-same I (λ i. 1) p (down I p s) v (same z);
+        further = λ z d X.
+            let T = down-exists M P h (X .parts) (X .after) in
+            omega (arith, R .far z T, weight-same I (λ i. 1) p (down I p s) d (down-unique (down-is M P h T) X));
+        most = R .most;
       }
 
--- what it gives depends on the places of the proposers and receivers alone
+-- what a push says depends on the places of the proposers and receivers alone
 pub tries-same :
-    {I : Market} {p q v v′ t t′ : ℕ → ℕ} {s : ℕ} {found : Bool} → s < I .proposers .size →
-    Same I p q → Same I v v′ → Same (exchange I) t t′ → Tries I p s v t found → Tries I q s v′ t′ found
-tries-same {I} {s = s} u e f g R =
+    {I : Market} {p q v v′ t t′ : ℕ → ℕ} {s stop far : ℕ} → s < I .proposers .size →
+    Same I p q → Same I v v′ → Same (exchange I) t t′ → Tries I p s stop v t far → Tries I q s stop v′ t′ far
+tries-same {I} {v = v} {v′ = v′} u e f g R =
+    let A = alike-refl I in
     record {
-      repair = λ z. down-alike (alike-refl I) e u f (R .repair z);
-      mirror = λ z. mirror-alike (alike-refl I) f g (R .mirror z);
-      none = λ z {k} K le. R .none z {k = k} (record { stable = K .stable; without = λ y. K .without (omega (arith, e s u)) }) (λ i w. omega (arith, e i w, le i w));
+      repair = λ z. down-alike A e u f (R .repair z);
+      mirror = λ z. mirror-alike A f g (R .mirror z);
+      distance = λ z. R .distance z ∙ weight-alike A e (λ i. 1) v v′ f;
+      further = λ z d X.
+          let Y = down-alike A (λ i l. sym (e i l)) u (λ i l. refl) X in
+          omega (arith, R .further z d Y, weight-alike A e (λ i. 1) d d (λ i l. refl));
+      most = R .most;
     }
 
--- The repairs that there are: v is the one with distance `far`, which is n + 1 where there is none
-pub record Reached (I : Market) (p : ℕ → ℕ) (Is : (ℕ → ℕ) → Type 0) (v : ℕ → ℕ) (far : ℕ) : Type 0 where
-  pub found : far ≤ I .proposers .size → Is v
-  pub distance : far ≤ I .proposers .size → far ≡ weight I (λ i. 1) p v
-  pub none : I .proposers .size < far → (d : ℕ → ℕ) → Is d → ⊥
-  pub most : far ≤ I .proposers .size + 1
+-- a push of s says how near the repair down is
+pub distant-down : {I : Market} {p v t : ℕ → ℕ} {s stop far : ℕ} → Tries I p s stop v t far → Distant I (λ i. 1) p (IsDown I p s) stop far
+distant-down {v = v} R = record { near = λ z. (v, R .repair z, R .distance z); further = R .further }
 
-module _ {I : Market} (M : Proper I) {p t : ℕ → ℕ} {s w : ℕ} (P : Stable I p) (X : Mirror I p t) (h : Holds I p s w) {e u : ℕ → ℕ} {found : Bool} (R : Tries (exchange I) t w e u found) where
-  -- a push on the other side gives the repair up
-  tried-up : found ≡ true → IsUp I p s u
-  tried-up z = down-across M P X (mirror-back (R .mirror z)) h (R .repair z)
+-- s holds w under the stable vector p, whose other side is t
+module _ {I : Market} (M : Proper I) {p t : ℕ → ℕ} {s w : ℕ} (P : Stable I p) (X : Mirror I p t) (h : Holds I p s w) where
+  -- the other side's repair down is the repair up, and is as near
+  across-near : {e u : ℕ → ℕ} → Mirror I u e → IsDown (exchange I) t w e → weight (exchange I) (λ i. 1) t e ≡ weight I (λ i. 1) p u
+  across-near {e} {u} Y L =
+      let N = exchanged M in
+      sym (distance-weight (exchange I) t e)
+      ∙ distance-both N (stable-across M X P) (L .parts .stable) (mirror-back X) (mirror-back Y) (L .after)
+      ∙ distance-weight I p u
 
-  -- or there is none
-  tried-none : found ≡ false → (d : ℕ → ℕ) → IsUp I p s d → ⊥
-  tried-none z d Y =
+  -- where there is a repair up, there is that repair down, and it is as near
+  across-back : {d : ℕ → ℕ} → IsUp I p s d → (e : ℕ → ℕ) × IsDown (exchange I) t w e × (weight (exchange I) (λ i. 1) t e ≡ weight I (λ i. 1) p d)
+  across-back {d} Y =
+      let N = exchanged M in
       let Z = mirror-of M (Y .parts .stable .settled) in
-      R .none z (parts-across M X Z h (Y .parts)) (mirror-order M Z X P (Y .before))
+      let T = stable-across M X P in
+      let E = down-is N T (X .there h) (down-exists N T (X .there h) (parts-across M X Z h (Y .parts)) (mirror-order M Z X P (Y .before))) in
+      let W = mirror-back (mirror-of N (E .parts .stable .settled)) in
+      let Q = down-across M P X W h E in
+      (down (exchange I) t w, E, across-near W E ∙ weight-same I (λ i. 1) p _ d (up-unique Q Y))
 
--- what is found, with its distance
-reached : {I : Market} {p : ℕ → ℕ} {Is : (ℕ → ℕ) → Type 0} {v : ℕ → ℕ} {found : Bool} {far : ℕ} →
-    (found ≡ true → Is v) → (found ≡ false → (d : ℕ → ℕ) → Is d → ⊥) → Measured (I .proposers .size) (weight I (λ i. 1) p v) found far →
-    Reached I p Is v far
-reached {found = found} is none K =
-    tested found
-    (λ e. record { found = λ l. is e; distance = λ l. K .yes e; none = λ l. absurd (omega (arith, K .most e)); most = omega (arith, K .most e) })
-    (λ e. record { found = λ l. absurd (omega (arith, K .no e)); distance = λ l. absurd (omega (arith, K .no e)); none = λ l. none e; most = omega (arith, K .no e) })
+  module _ {e u : ℕ → ℕ} {stop far : ℕ} (R : Tries (exchange I) t w stop e u far) where
+    -- so a push of w there gives the repair up
+    pub repair-up : far < stop → IsUp I p s u
+    repair-up z = down-across M P X (mirror-back (R .mirror z)) h (R .repair z)
 
--- a push of s reaches the repair down
-pub reached-down : {I : Market} {p v t : ℕ → ℕ} {s : ℕ} {found : Bool} {far : ℕ} →
-    Tries I p s v t found → Measured (I .proposers .size) (weight I (λ i. 1) p v) found far → Reached I p (IsDown I p s) v far
-reached-down R K = reached (R .repair) (λ e d X. R .none e (X .parts) (X .after)) K
+    pub distance-up : far < stop → far ≡ weight I (λ i. 1) p u
+    distance-up z = R .distance z ∙ across-near (mirror-back (R .mirror z)) (R .repair z)
 
--- and a push of his receiver on the other side the repair up
-pub reached-up : {I : Market} (M : Proper I) {p t : ℕ → ℕ} {s w : ℕ} → Stable I p → Mirror I p t → Holds I p s w → {e u : ℕ → ℕ} {found : Bool} {far : ℕ} →
-    Tries (exchange I) t w e u found → Measured (I .proposers .size) (weight I (λ i. 1) p u) found far → Reached I p (IsUp I p s) u far
-reached-up M P X h R K = reached (tried-up M P X h R) (tried-none M P X h R) K
+    -- or says how near it is not
+    pub distant-up : Distant I (λ i. 1) p (IsUp I p s) stop far
+    distant-up =
+        record {
+          near = λ z. (u, repair-up z, distance-up z);
+          further = λ z d Y. let (e′, E, q) = across-back Y in omega (arith, R .further z e′ E);
+        }
 
-module _ {I : Market} {p : ℕ → ℕ} {s : ℕ} {u d : ℕ → ℕ} {far near : ℕ} (A : Reached I p (IsUp I p s) u far) (B : Reached I p (IsDown I p s) d near) where
+-- The two repairs of the pair of s, the nearness of which is below `all`: `far` says it of the repair up, and `near`,
+-- with a bound that far does not pass, of the repair down
+module _ {I : Market} {c p : ℕ → ℕ} {s : ℕ} {all far stop near : ℕ} (most : (v : ℕ → ℕ) → weight I c p v < all)
+    (A : Distant I c p (IsUp I p s) all far) (B : Distant I c p (IsDown I p s) stop near) (l : far ≤ stop) where
   -- the nearer is the answer
-  pub answers-down : near < far → Answers I (λ i. 1) p s (D d)
-  answers-down l =
-      nearer-down (B .found (omega (arith, A .most)))
-      (λ k X. split far (I .proposers .size)
-      (λ f. omega (arith, A .distance f, B .distance (omega arith), weight-same I (λ i. 1) p u k (up-unique (A .found f) X)))
-      (λ f. absurd (A .none f k X)))
+  pub answers-down : {v : ℕ → ℕ} → IsDown I p s v → near ≡ weight I c p v → near < far → Answers I c p s (D v)
+  answers-down X e b =
+      nearer-down X
+      (λ k Y. split all far
+      (λ f. absurd (omega (arith, A .further f k Y, most k)))
+      (λ f. let (u, Z, g) = A .near f in omega (arith, weight-same I c p u k (up-unique Z Y))))
 
-  pub answers-up : far ≤ near → far ≤ I .proposers .size → Answers I (λ i. 1) p s (U u)
-  answers-up l f =
-      nearer-up (A .found f)
-      (λ k X. split near (I .proposers .size)
-      (λ g. omega (arith, A .distance f, B .distance g, weight-same I (λ i. 1) p d k (down-unique (B .found g) X)))
-      (λ g. absurd (B .none g k X)))
+  pub answers-up : {u : ℕ → ℕ} → IsUp I p s u → far ≡ weight I c p u → far ≤ near → Answers I c p s (U u)
+  answers-up X e b =
+      nearer-up X
+      (λ k Y. split stop near
+      (λ g. omega (arith, B .further g k Y))
+      (λ g. let (v, Z, q) = B .near g in omega (arith, weight-same I c p v k (down-unique Z Y))))
 
-  pub answers-fixed : far ≤ near → I .proposers .size < far → Answers I (λ i. 1) p s F
-  answers-fixed l f = neither (A .none f) (B .none (omega arith))
+  pub answers-fixed : far ≤ near → all ≤ far → Answers I c p s F
+  answers-fixed b f =
+      neither (λ k Y. omega (arith, A .further f k Y, most k))
+      (λ k Y. split stop near
+      (λ g. omega (arith, B .further g k Y, most k))
+      (λ g. let (v, Z, q) = B .near g in omega (arith, most v)))

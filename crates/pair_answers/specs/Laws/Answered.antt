@@ -1,75 +1,139 @@
--- The loop that collects the letters and the distances, and the grade from the distances. Assumes nothing.
+-- From the groups and what is measured of them to the answer for each pair, and the grade from the distances. Assumes
+-- nothing.
 use Prim.Native.Nat.{ℕ, _+_, _-_, _≤_, _<_}
-use mathlib.Core.Path.{_≡_, sym, _∙_, ap}
+use mathlib.Core.Path.{_≡_, refl, sym, _∙_, ap}
 use mathlib.Core.List.{List}
+use mathlib.Core.Logic.{⊎-elim}
 use native.Mathlib.Omega.{arith}
-use lib.ListN.{length, set, length-set}
-use lib.Seq.{getD-set-same, getD-set-other}
+use lib.ListN.{length}
+use borrow.Author.Tests.{lt-ltb, le-ltb}
 use Rattle.laws.specs.Choice.{split}
 use Rattle.laws.specs.Maximum.{maximum, maximum-same, maximum-less}
 use Rattle.laws.specs.Values.{vec}
 use Rattle.format.specs.Record.{Record}
 use Rattle.stable_theory.specs.Stable.Market.{Market}
-use Rattle.stable_theory.specs.Repairs.Answer.{answerOf}
+use Rattle.stable_theory.specs.Repairs.Repair.{IsDown, IsUp, weight}
+use Rattle.stable_theory.specs.Repairs.Answer.{Answer, U, D, F, answerOf, Answers, SameAnswer, same-up, same-down, same-fixed}
 use Rattle.matchings.specs.declared.places.Places.{Places}
 use Rattle.instances.specs.Usable.{marketIn}
-use Rattle.nearest.specs.declared.answer.Nearest.{Nearest}
-use Rattle.nearest.specs.Nearest.{Shows, costs}
-use Rattle.pair_answers.specs.Answered.{letterByte, AnswerAt, Answered, PairsAnswered}
+use Rattle.rotation_pass.specs.Groups.{Grouped}
+use Rattle.nearest.specs.Tried.{Distant}
+use Rattle.nearest.specs.Nearest.{Given, GivenIn, farOf, costs}
+use Rattle.nearest.specs.Laws.Tried.{weight-most, answers-down, answers-up, answers-fixed}
+use Rattle.nearest.specs.Laws.Grade.{far-same}
+use Rattle.nearest.specs.Laws.Nearest.{right}
+use Rattle.pair_answers.specs.declared.groups.Groups.{Groups}
+use Rattle.pair_answers.specs.Groups.{GroupsOf}
+use Rattle.pair_answers.specs.Measured.{leadFar, Measured, Bounded, Filled}
+use Rattle.pair_answers.specs.Answered.{letterByte, AnswerAt, PairsAnswered}
 
--- before the first pair
-pub answered-start : {I : Market} {p : ℕ → ℕ} {n : ℕ} {letters distances : List ℕ} →
-    n ≤ length letters → n ≤ length distances → Answered I p n 0 letters distances
-answered-start h k =
-    record { within = omega arith; letters-long = h; distances-long = k; at = λ u. absurd (omega arith) }
+-- the same answer has the same letter
+letter-same : {I : Market} {a b : Answer} → SameAnswer I a b → letterByte a ≡ letterByte b
+letter-same (same-up e) = refl
+letter-same (same-down e) = refl
+letter-same same-fixed = refl
 
-module _ {I : Market} {p : ℕ → ℕ} {n k : ℕ} {letters distances : List ℕ} (A : Answered I p n k letters distances) where
-  -- one pair more
-  pub answered-on : {r : Nearest} {l : ℕ} → k < n → Shows I p (answerOf I (λ i. 1) p k) r → l ≡ letterByte (r .letter)
-      → Answered I p n (k + 1) (set letters k l) (set distances k (r .distance))
-  answered-on {r} {l} h S e =
+-- What is measured for the one who answers for s holds of s: up to his bound, or exactly where nobody answers
+module _ {I : Market} {p : ℕ → ℕ} {n : ℕ} {Is : ℕ → (ℕ → ℕ) → Type 0} {lead stop far : ℕ → ℕ}
+    (G : Grouped n Is lead) (A : Measured I p n Is lead stop far) {s : ℕ} (u : s < n) where
+  pub lead-distant :
+      {C : Type 0} →
+      (lead s < n → Distant I (λ i. 1) p (Is s) (stop (lead s)) (leadFar n (lead s) far) → leadFar n (lead s) far ≤ stop (lead s) → C) →
+      (Distant I (λ i. 1) p (Is s) (n + 1) (leadFar n (lead s) far) → leadFar n (lead s) far ≡ n + 1 → C) → C
+  lead-distant led alone =
+      ⊎-elim
+      (λ N.
+      let e : leadFar n (lead s) far ≡ n + 1 = rw (le-ltb (lead s) n (omega (arith, N .none))) in
+      alone (record { near = λ z. absurd (omega arith); further = λ z d X. absurd (N .no-repair d X) }) e)
+      (λ L.
+      let e : leadFar n (lead s) far ≡ far (lead s) = rw (lt-ltb (lead s) n (L .low)) in
+      let X = A .distant (L .low) (L .own) in
+      led (L .low)
+      (rw e (record {
+        near = λ z. let (v, Y, q) = X .near z in (v, L .alike v .0 Y, q);
+        further = λ z d Y. X .further z d (L .alike d .1 Y);
+      }))
+      (rw e (A .most (L .low) (L .own))))
+      (G s u)
+
+-- no distance up is over n + 1
+pub lead-most : {I : Market} {p : ℕ → ℕ} {n : ℕ} {Is : ℕ → (ℕ → ℕ) → Type 0} {lead far : ℕ → ℕ} →
+    Grouped n Is lead → Measured I p n Is lead (λ s. n + 1) far → {s : ℕ} → s < n → leadFar n (lead s) far ≤ n + 1
+lead-most G A u = lead-distant G A u (λ l X m. m) (λ X e. omega arith)
+
+-- The groups of a stable matching of a record, what is measured of them, and what is filled in
+module _ {R : Record} {p : Places} (G : GivenIn R p) {groups : Groups} (W : GroupsOf R (vec (p .men)) groups) {above bound below : ℕ → ℕ} (letters distances : List ℕ)
+    (A : Measured (marketIn R) (vec (p .men)) (R .n) (IsUp (marketIn R) (vec (p .men))) (vec (groups .up)) (λ s. R .n + 1) above)
+    (B : Bounded (R .n) (vec (groups .down)) (vec (groups .up)) above (R .n) bound)
+    (C : Measured (marketIn R) (vec (p .men)) (R .n) (IsDown (marketIn R) (vec (p .men))) (vec (groups .down)) bound below)
+    (E : Filled (R .n) (vec (groups .down)) (vec (groups .up)) below above (R .n) (vec letters) (vec distances)) where
+  abbrev n : ℕ
+  n = R .n
+
+  abbrev I : Market
+  I = marketIn R
+
+  abbrev men : ℕ → ℕ
+  men = vec (p .men)
+
+  abbrev over : ℕ → ℕ
+  over s = leadFar n (vec (groups .up) s) above
+
+  abbrev near : ℕ → ℕ
+  near s = leadFar n (vec (groups .down) s) below
+
+  module _ {s : ℕ} (u : s < n) where
+    -- the distance up is exact, and n + 1 where there is no repair up
+    up-distant : Distant I (λ i. 1) men (IsUp I men s) (n + 1) (over s)
+    up-distant = lead-distant (W .ups) A u (λ l X m. X) (λ X e. X)
+
+    -- the distance down is exact below a bound that the distance up does not pass
+    down-distant : (stop : ℕ) × Distant I (λ i. 1) men (IsDown I men s) stop (near s) × (over s ≤ stop)
+    down-distant =
+        lead-distant (W .downs) C u
+        (λ l X m. (bound (vec (groups .down) s), X, B .over u l))
+        (λ X e. (n + 1, X, lead-most (W .ups) A u))
+
+    most : (k : ℕ → ℕ) → weight I (λ i. 1) men k < n + 1
+    most k = omega (arith, weight-most I men k)
+
+    -- so the letter and the distance are those of the answer
+    answer-at : AnswerAt I men letters distances s
+    answer-at =
+        let (stop, X, l) = down-distant in
+        split (over s) (near s)
+        (λ b. split (over s) n
+        (λ f.
+        let (v, Y, e) = up-distant .near (omega arith) in
+        let Q = right G u refl refl (answers-up most up-distant X l Y e b) in
+        record {
+          letter = E .letter u ∙ rw (le-ltb (near s) (over s) b, le-ltb n (over s) f) (letter-same Q);
+          distance = E .distance u ∙ rw (le-ltb (near s) (over s) b, le-ltb n (over s) f) (e ∙ far-same men Q);
+        })
+        (λ f.
+        let Q = right G u refl refl (answers-fixed most up-distant X l b (omega arith)) in
+        record {
+          letter = E .letter u ∙ rw (le-ltb (near s) (over s) b, lt-ltb n (over s) f) (letter-same Q);
+          distance = E .distance u ∙ rw (le-ltb (near s) (over s) b, lt-ltb n (over s) f) (far-same men Q);
+        }))
+        (λ b.
+        let (v, Y, e) = X .near (omega arith) in
+        let Q = right G u refl refl (answers-down most up-distant X l Y e b) in
+        record {
+          letter = E .letter u ∙ rw (lt-ltb (near s) (over s) b) (letter-same Q);
+          distance = E .distance u ∙ rw (lt-ltb (near s) (over s) b) (e ∙ far-same men Q);
+        })
+
+  -- and the largest distance less 1 is the grade
+  pub pairs-answered : {grade : ℕ} → n ≤ length letters → n ≤ length distances → grade ≡ maximum n (vec distances) - 1 →
+      PairsAnswered R p letters distances (record { grade = grade; rotations = groups .rotations })
+  pairs-answered l d e =
       record {
-        within = omega arith;
-        letters-long = simp length-set (A .letters-long);
-        distances-long = simp length-set (A .distances-long);
-        at = λ {s} u.
-            split k s
-            (λ g. let q : k ≡ s = omega arith in rw (← q) here)
-            (λ g. let ne : s ≡ k → ⊥ = λ z. omega arith in before g ne);
-      }
-    where
-      here : AnswerAt I p (set letters k l) (set distances k (r .distance)) k
-      here =
-          record {
-            near = r;
-            shows = S;
-            letter = getD-set-same letters k l 0 (omega (arith, A .letters-long)) ∙ e;
-            distance = getD-set-same distances k (r .distance) 0 (omega (arith, A .distances-long));
-          }
-
-      before : {s : ℕ} → s < k → (s ≡ k → ⊥) → AnswerAt I p (set letters k l) (set distances k (r .distance)) s
-      before {s} g ne =
-          let B = A .at g in
-          record {
-            near = B .near;
-            shows = B .shows;
-            letter = getD-set-other letters k s l 0 ne ∙ B .letter;
-            distance = getD-set-other distances k s (r .distance) 0 ne ∙ B .distance;
-          }
-
-  -- and all
-  pub answered-end : n ≤ k → Answered I p n n letters distances
-  answered-end h = let e : k ≡ n = omega (arith, A .within) in rw e at A
-
-module _ {R : Record} {p : Places} {letters distances : List ℕ}
-    (A : Answered (marketIn R) (vec (p .men)) (R .n) (R .n) letters distances) where
-  -- the largest distance less 1 is the grade
-  pub pairs-answered : {grade : ℕ} → grade ≡ maximum (R .n) (vec distances) - 1 → PairsAnswered R p letters distances grade
-  pairs-answered e =
-      record {
-        pairs = A;
+        letters-long = l;
+        distances-long = d;
+        at = λ u. answer-at u;
         largest-cost = e
-            ∙ sym (maximum-less (R .n) (vec distances) 1)
-            ∙ maximum-same (R .n) (λ s. vec distances s - 1) (costs (marketIn R) (vec (p .men)))
-            (λ s u. let B = A .at u in ap (λ (d : ℕ). d - 1) (B .distance ∙ B .shows .distance));
+            ∙ sym (maximum-less n (vec distances) 1)
+            ∙ maximum-same n (λ s. vec distances s - 1) (costs I men) (λ s u. ap (λ (d : ℕ). d - 1) (answer-at u .distance));
+        all-rotations = W .all-rotations;
       }

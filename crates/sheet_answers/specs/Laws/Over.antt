@@ -5,11 +5,11 @@ use mathlib.Core.Path.{_≡_, refl, sym, _∙_, ap, ap₂}
 use mathlib.Core.List.{List, _++_}
 use native.Mathlib.Omega.{arith}
 use lib.ListN.{length, length-append}
-use Rattle.laws.specs.Values.{vec, values, stored-at, length-values}
+use Rattle.laws.specs.Values.{vec}
 use Rattle.format.specs.Verdict.{fine}
-use Rattle.format.specs.Format.{largest, people}
+use Rattle.format.specs.Format.{people}
 use Rattle.stable_theory.specs.Stable.Market.{Market}
-use Rattle.stable_theory.specs.Repairs.Answer.{Answer, U, D, F, answerOf, Answers, nearer-up, nearer-down, neither}
+use Rattle.stable_theory.specs.Repairs.Answer.{Answer, U, D, F, answerOf, Answers, nearer-up, nearer-down, neither, SameAnswer, same-up, same-down, same-fixed}
 use Rattle.stable_theory.specs.Repairs.AnswerLaws.{answer-of}
 use Rattle.stable_theory.specs.Rotations.Numbering.{total}
 use Rattle.stable_theory.specs.Rotations.RotationAlike.{rotations-alike}
@@ -22,15 +22,15 @@ use Rattle.matchings.specs.Laws.StableCheck.{fine-stable}
 use Rattle.matchings.specs.Laws.StableVector.{vector-stable}
 use Rattle.stability.specs.Laws.Judged.{BookJudged}
 use Rattle.instances.specs.Usable.{marketIn}
-use Rattle.nearest.specs.declared.answer.Nearest.{Nearest}
 use Rattle.repairs.specs.Repair.{answerFor}
 use Rattle.repairs.specs.Grade.{gradeOf}
 use Rattle.repairs.specs.Laws.Bytes.{moved-vector}
 use Rattle.repairs.specs.Laws.RepairBytes.{holds}
-use Rattle.nearest.specs.Nearest.{letterOf as codeLetter, farOf, vectorAfter, Shows}
-use Rattle.nearest.specs.Laws.Book.{judged-formed, judged-number, judged-alike, judged-given, judged-usable, shows-book, grade-book}
+use Rattle.nearest.specs.Nearest.{farOf}
+use Rattle.nearest.specs.Laws.Book.{judged-formed, judged-number, judged-alike, judged-usable, answer-book, far-book, grade-book}
 use Rattle.sheets.specs.Line.{topLine, pairLines}
 use Rattle.sheets.specs.Sheet.{letterOf, distanceOf, answers}
+use Rattle.pair_answers.specs.declared.answers.Summary.{Summary}
 use Rattle.pair_answers.specs.Answered.{letterByte, PairsAnswered}
 use Rattle.sheet_text.specs.Put.{Put}
 use Rattle.sheet_text.specs.Laws.Put.{put-on, put-long}
@@ -38,15 +38,14 @@ use Rattle.sheet_answers.specs.Over.{letterIn, distanceIn, sheetIn, shee
 use Rattle.sheet_text.specs.Laws.Lines.{lines-same}
 
 -- the byte of an answer's letter
-letter-byte : (a : Answer) → letterByte (codeLetter a) ≡ letterOf a
+letter-byte : (a : Answer) → letterByte a ≡ letterOf a
 letter-byte (U v) = refl
 letter-byte (D v) = refl
 letter-byte F = refl
 
-module _ {R : Record} {p : Places} {letters distances : List ℕ} {grade : ℕ} (A : PairsAnswered R p letters distances grade)
-    (m : List ℕ) {rotations : ℕ} (e : rotations ≡ total (marketIn R)) where
+module _ {R : Record} {p : Places} {letters distances : List ℕ} {r : Summary} (A : PairsAnswered R p letters distances r) (m : List ℕ) where
   abbrev top : List ℕ
-  top = topLine (R .n) rotations grade
+  top = topLine (R .n) (r .rotations) (r .grade)
 
   abbrev pairs : List ℕ
   pairs = pairLines (womanOf m) (vec letters) (vec distances) (R .n)
@@ -57,12 +56,9 @@ module _ {R : Record} {p : Places} {letters distances : List ℕ} {grade : ℕ} 
   sheet-in =
       let I = marketIn R in
       let v = vec (p .men) in
-      ap₂ (λ (t l : List ℕ). t ++ l) (ap₂ (topLine (R .n)) e (A .largest-cost))
+      ap₂ (λ (t l : List ℕ). t ++ l) (ap₂ (topLine (R .n)) (A .all-rotations) (A .largest-cost))
       (lines-same {w = womanOf m} {l = vec letters} {d = vec distances} {v = womanOf m} {m = letterIn I v} {e = distanceIn I v} (R .n)
-      (λ s u.
-      let B = A .pairs .at u in
-      let l = B .letter ∙ ap letterByte (B .shows .letter) ∙ letter-byte (answerOf I (λ i. 1) v s) in
-      (refl, l, B .distance ∙ B .shows .distance)))
+      (λ s u. let B = A .at u in (refl, B .letter ∙ letter-byte (answerOf I (λ i. 1) v s), B .distance)))
 
   -- there is room for each part of it
   room : length top + length pairs ≡ length (sheetOver R p m)
@@ -79,6 +75,12 @@ module _ {R : Record} {p : Places} {letters distances : List ℕ} {grade : ℕ} 
     pub sheet-put : {last : List ℕ} {after : ℕ} → Put first end pairs last after → Put text 0 (sheetOver R p m) last after
     sheet-put Q = rw (← sheet-in) (put-on P (omega arith) Q)
 
+-- the same answer has the same letter
+letter-same : {I : Market} {a b : Answer} → SameAnswer I a b → letterOf a ≡ letterOf b
+letter-same (same-up e) = refl
+letter-same (same-down e) = refl
+letter-same same-fixed = refl
+
 -- an answer's distance in bytes is the number of moved places
 distance-far : {b m : List ℕ} → StableIn b m → {s : ℕ} {a : Answer} → Answers (market b) (λ i. 1) (vectorOf b m) s a →
     distanceOf b m a ≡ farOf (market b) (vectorOf b m) a
@@ -87,42 +89,23 @@ distance-far S (nearer-down K f) = moved-vector (S .matching) (K .parts .stable)
 distance-far S (neither h k) = refl
 
 module _ {b m : List ℕ} {R : Record} {j : Judged} (J : BookJudged b m R j) (f : checkMatching b m ≡ fine) where
-  -- the market of the record, the places, and the answer for s
+  -- the market of the record, and the places
   abbrev I : Market
   I = marketIn R
 
   abbrev p : ℕ → ℕ
   p = vec (j .places .men)
 
-  abbrev answer : ℕ → Answer
-  answer s = answerOf I (λ i. 1) p s
-
-  -- what it says
-  abbrev said : ℕ → Nearest
-  said s =
-      record { letter = codeLetter (answer s); distance = farOf I p (answer s); men = values (vectorAfter p (answer s)) 0 largest }
-
-  -- is said of the book too
-  said-book : {s : ℕ} → s < R .n → Shows (market b) (vectorOf b m) (answerFor b m s) (said s)
-  said-book {s} u =
-      shows-book J f u
-      (record {
-        letter = refl;
-        distance = refl;
-        places = λ i v. stored-at largest (vectorAfter p (answer s)) (omega (arith, judged-given J f .few));
-        long = length-values (vectorAfter p (answer s)) 0 largest;
-      })
-
-  -- so the letter and the distance over the record are those of the bytes
+  -- the letter and the distance over the record are those of the bytes
   letter-book : {s : ℕ} → s < R .n → letterIn I p s ≡ letterOf (answerFor b m s)
-  letter-book {s} u = sym (letter-byte (answer s)) ∙ ap letterByte (said-book u .letter) ∙ letter-byte (answerFor b m s)
+  letter-book u = letter-same (answer-book J f u)
 
   distance-book : {s : ℕ} → s < R .n → distanceIn I p s ≡ distanceOf b m (answerFor b m s)
   distance-book {s} u =
       let S = fine-stable b m .0 f in
       let v : s < people b = omega (arith, judged-number J f) in
       let A = answer-of (market-proper (S .matching .formed)) (λ i. 1) (vector-stable S) (holds S v) in
-      said-book u .distance ∙ sym (distance-far S A)
+      far-book J f u ∙ sym (distance-far S A)
 
   -- the record has as many rotations as the book
   totals : total I ≡ total (market b)

@@ -15,7 +15,6 @@ use Rattle.stability.specs.Laws.Judged.{BookJudged, book-judged}
 use Rattle.repairs.specs.Request.{checkPair}
 use Rattle.repairs.specs.Laws.Request.{Asked, asked}
 use Rattle.nearest.specs.Laws.Book.{judged-given, judged-long}
-use Rattle.nearest.specs.Laws.Ends.{given-none}
 use Rattle.repair.specs.Laws.Returns.{matching-refused, request-refused, given-small, found-writable, returns-found}
 use Rattle.repair.proofs.pair.repair_in.Statement.{statement}
 use Rattle.repair.proofs.pair.repair_in.Tie as tie
@@ -95,7 +94,7 @@ nearest-requires c κs =
     let w : tie.After-entry-in = search in
     let t = paired (asking w) in
     let B = start (stable t) .pre .recorded in
-    (given-none (judged-given (judged (stable t) _ B) (passed t _ B)), omega (arith, student w))
+    (judged-given (judged (stable t) _ B) (passed t _ B), omega (arith, student w))
 
 answer-requires : tie.Need-answer-requires
 answer-requires c κs =

@@ -10,12 +10,6 @@ use Rattle.sheet_answers.proofs.answers.put_answers.Tie as tie
 abbrev start : tie.After-answer-pairs → tie.Start
 start c = search
 
-abbrev answered : tie.After-count → tie.After-answer-pairs
-answered c = search
-
-abbrev counted : tie.After-put-top → tie.After-count
-counted c = search
-
 answer-pairs-requires : tie.Need-answer-pairs-requires
 answer-pairs-requires c κs =
     let s : tie.Start = search in
@@ -23,25 +17,23 @@ answer-pairs-requires c κs =
 
 put-top-requires : tie.Need-put-top-requires
 put-top-requires c κs =
-    let r : tie.After-count = search in
-    let a = answered r in
-    top-fits (a .answer-pairs .ensures) _ (r .count .ensures) (start a .pre .1 .1)
+    let a : tie.After-answer-pairs = search in
+    top-fits (a .answer-pairs .ensures) _ (start a .pre .1 .1)
 
 put-pairs-requires : tie.Need-put-pairs-requires
 put-pairs-requires c κs =
     let t : tie.After-put-top = search in
-    let r = counted t in
-    let a = answered r in
+    let a : tie.After-answer-pairs = search in
     let A = a .answer-pairs .ensures in
-    let fit = pairs-fit A _ (r .count .ensures) (t .put-top .ensures) (start a .pre .1 .1) in
-    (start a .pre .1 .0, A .pairs .letters-long, A .pairs .distances-long, fit)
+    let fit = pairs-fit A _ (t .put-top .ensures) (start a .pre .1 .1) in
+    (start a .pre .1 .0, A .letters-long, A .distances-long, fit)
 
 returns : tie.Need-returns
 returns c =
     let p : tie.After-put-pairs = search in
     let t : tie.After-put-top = search in
-    let r = counted t in
-    sheet-put (answered r .answer-pairs .ensures) _ (r .count .ensures) (t .put-top .ensures) (p .put-pairs .ensures)
+    let a : tie.After-answer-pairs = search in
+    sheet-put (a .answer-pairs .ensures) _ (t .put-top .ensures) (p .put-pairs .ensures)
 
 pub put-answers-spec : {M : Type 1} → statement M
 put-answers-spec =
@@ -50,7 +42,6 @@ put-answers-spec =
     (λ c. search needs)
     (λ c. search needs)
     answer-pairs-requires
-    (λ c κs. let s : tie.Start = search in s .pre .0 .0)
     put-top-requires
     (λ c. search needs)
     (λ c. search needs)
