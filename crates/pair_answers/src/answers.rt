@@ -1,12 +1,10 @@
 // The letter and the distance of the answer for each pair of a stable matching, the grade, and the number of rotations.
-use crate::groups::group;
-use crate::letters::fill_answers;
-use crate::measures::bound_down;
-use crate::measures::measure_down;
-use crate::measures::measure_up;
 use crate::robustness::grade_of;
 use format::Instance;
 use matchings::Places;
+use pair_measures::fill_answers;
+use pair_measures::measure;
+use rotation_groups::group;
 ghost use mathlib.Core.Path.{_≡_};
 ghost use Prim.Native.Nat.{_≤_};
 ghost use lib.ListN.{length};
@@ -46,21 +44,8 @@ pub fn answer_pairs<'a>(
     let down = groups.down;
     let up = groups.up;
     let mut above = [0usize; Instance::LARGEST];
-    let mut bound = [0usize; Instance::LARGEST];
     let mut below = [0usize; Instance::LARGEST];
-    measure_up(
-        n,
-        mlists,
-        mranks,
-        wlists,
-        wranks,
-        men,
-        women,
-        &up,
-        &mut above[..],
-    );
-    bound_down(n, &down, &up, &above, &mut bound[..]);
-    measure_down(
+    measure(
         n,
         mlists,
         mranks,
@@ -69,7 +54,8 @@ pub fn answer_pairs<'a>(
         men,
         women,
         &down,
-        &bound,
+        &up,
+        &mut above[..],
         &mut below[..],
     );
     fill_answers(n, &down, &up, &below, &above, letters, distances);

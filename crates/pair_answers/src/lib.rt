@@ -2,9 +2,6 @@
 // their number and the groups of men whose pairs have the same repair; one push up and one down for each group; the
 // letter and the distance of each answer, and the grade.
 mod answers;
-mod groups;
-mod letters;
-mod measures;
 mod robustness;
 
 pub use answers::Summary;

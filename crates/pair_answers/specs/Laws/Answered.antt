@@ -3,7 +3,6 @@
 use Prim.Native.Nat.{ℕ, _+_, _-_, _≤_, _<_}
 use mathlib.Core.Path.{_≡_, refl, sym, _∙_, ap}
 use mathlib.Core.List.{List}
-use mathlib.Core.Logic.{⊎-elim}
 use native.Mathlib.Omega.{arith}
 use lib.ListN.{length}
 use borrow.Author.Tests.{lt-ltb, le-ltb}
@@ -16,15 +15,15 @@ use Rattle.stable_theory.specs.Repairs.Repair.{IsDown, IsUp, weight}
 use Rattle.stable_theory.specs.Repairs.Answer.{Answer, U, D, F, answerOf, Answers, SameAnswer, same-up, same-down, same-fixed}
 use Rattle.matchings.specs.declared.places.Places.{Places}
 use Rattle.instances.specs.Usable.{marketIn}
-use Rattle.rotation_pass.specs.Groups.{Grouped}
 use Rattle.nearest.specs.Tried.{Distant}
 use Rattle.nearest.specs.Nearest.{Given, GivenIn, farOf, costs}
 use Rattle.nearest.specs.Laws.Tried.{weight-most, answers-down, answers-up, answers-fixed}
 use Rattle.nearest.specs.Laws.Grade.{far-same}
 use Rattle.nearest.specs.Laws.Nearest.{right}
-use Rattle.pair_answers.specs.declared.groups.Groups.{Groups}
-use Rattle.pair_answers.specs.Groups.{GroupsOf}
-use Rattle.pair_answers.specs.Measured.{leadFar, Measured, Bounded, Filled}
+use Rattle.rotation_groups.specs.declared.groups.Groups.{Groups}
+use Rattle.rotation_groups.specs.Groups.{GroupsOf}
+use Rattle.pair_measures.specs.Measured.{leadFar, BothMeasured, Filled}
+use Rattle.pair_measures.specs.Laws.Leads.{lead-distant, lead-most}
 use Rattle.pair_answers.specs.Answered.{letterByte, AnswerAt, PairsAnswered}
 
 -- the same answer has the same letter
@@ -33,39 +32,9 @@ letter-same (same-up e) = refl
 letter-same (same-down e) = refl
 letter-same same-fixed = refl
 
--- What is measured for the one who answers for s holds of s: up to his bound, or exactly where nobody answers
-module _ {I : Market} {p : ℕ → ℕ} {n : ℕ} {Is : ℕ → (ℕ → ℕ) → Type 0} {lead stop far : ℕ → ℕ}
-    (G : Grouped n Is lead) (A : Measured I p n Is lead stop far) {s : ℕ} (u : s < n) where
-  pub lead-distant :
-      {C : Type 0} →
-      (lead s < n → Distant I (λ i. 1) p (Is s) (stop (lead s)) (leadFar n (lead s) far) → leadFar n (lead s) far ≤ stop (lead s) → C) →
-      (Distant I (λ i. 1) p (Is s) (n + 1) (leadFar n (lead s) far) → leadFar n (lead s) far ≡ n + 1 → C) → C
-  lead-distant led alone =
-      ⊎-elim
-      (λ N.
-      let e : leadFar n (lead s) far ≡ n + 1 = rw (le-ltb (lead s) n (omega (arith, N .none))) in
-      alone (record { near = λ z. absurd (omega arith); further = λ z d X. absurd (N .no-repair d X) }) e)
-      (λ L.
-      let e : leadFar n (lead s) far ≡ far (lead s) = rw (lt-ltb (lead s) n (L .low)) in
-      let X = A .distant (L .low) (L .own) in
-      led (L .low)
-      (rw e (record {
-        near = λ z. let (v, Y, q) = X .near z in (v, L .alike v .0 Y, q);
-        further = λ z d Y. X .further z d (L .alike d .1 Y);
-      }))
-      (rw e (A .most (L .low) (L .own))))
-      (G s u)
-
--- no distance up is over n + 1
-pub lead-most : {I : Market} {p : ℕ → ℕ} {n : ℕ} {Is : ℕ → (ℕ → ℕ) → Type 0} {lead far : ℕ → ℕ} →
-    Grouped n Is lead → Measured I p n Is lead (λ s. n + 1) far → {s : ℕ} → s < n → leadFar n (lead s) far ≤ n + 1
-lead-most G A u = lead-distant G A u (λ l X m. m) (λ X e. omega arith)
-
 -- The groups of a stable matching of a record, what is measured of them, and what is filled in
-module _ {R : Record} {p : Places} (G : GivenIn R p) {groups : Groups} (W : GroupsOf R (vec (p .men)) groups) {above bound below : ℕ → ℕ} (letters distances : List ℕ)
-    (A : Measured (marketIn R) (vec (p .men)) (R .n) (IsUp (marketIn R) (vec (p .men))) (vec (groups .up)) (λ s. R .n + 1) above)
-    (B : Bounded (R .n) (vec (groups .down)) (vec (groups .up)) above (R .n) bound)
-    (C : Measured (marketIn R) (vec (p .men)) (R .n) (IsDown (marketIn R) (vec (p .men))) (vec (groups .down)) bound below)
+module _ {R : Record} {p : Places} (G : GivenIn R p) {groups : Groups} (W : GroupsOf R (vec (p .men)) groups) {above below : ℕ → ℕ} (letters distances : List ℕ)
+    (A : BothMeasured (marketIn R) (vec (p .men)) (R .n) (vec (groups .down)) (vec (groups .up)) above below)
     (E : Filled (R .n) (vec (groups .down)) (vec (groups .up)) below above (R .n) (vec letters) (vec distances)) where
   abbrev n : ℕ
   n = R .n
@@ -85,14 +54,14 @@ module _ {R : Record} {p : Places} (G : GivenIn R p) {groups : Groups} (W : Grou
   module _ {s : ℕ} (u : s < n) where
     -- the distance up is exact, and n + 1 where there is no repair up
     up-distant : Distant I (λ i. 1) men (IsUp I men s) (n + 1) (over s)
-    up-distant = lead-distant (W .ups) A u (λ l X m. X) (λ X e. X)
+    up-distant = lead-distant (W .ups) (A .ups) u (λ l X m. X) (λ X e. X)
 
     -- the distance down is exact below a bound that the distance up does not pass
     down-distant : (stop : ℕ) × Distant I (λ i. 1) men (IsDown I men s) stop (near s) × (over s ≤ stop)
     down-distant =
-        lead-distant (W .downs) C u
-        (λ l X m. (bound (vec (groups .down) s), X, B .over u l))
-        (λ X e. (n + 1, X, lead-most (W .ups) A u))
+        lead-distant (W .downs) (A .downs) u
+        (λ l X m. (A .bound (vec (groups .down) s), X, A .bounded .over u l))
+        (λ X e. (n + 1, X, lead-most (W .ups) (A .ups) u))
 
     most : (k : ℕ → ℕ) → weight I (λ i. 1) men k < n + 1
     most k = omega (arith, weight-most I men k)
