@@ -2,6 +2,7 @@
 -- line one and the lines of the pairs are put with them. Assumes nothing.
 use native.Mathlib.Omega.{arith}
 use borrow.Author.Needs.{needs}
+use Rattle.sheet_answers.specs.Laws.Digits.{size-short, rotations-short, grade-short, pairs-given}
 use Rattle.sheet_answers.specs.Laws.Over.{top-fits, pairs-fit, sheet-put}
 use Rattle.sheet_answers.proofs.answers.put_answers.Statement.{statement}
 use Rattle.sheet_answers.proofs.answers.put_answers.Tie as tie
@@ -25,7 +26,10 @@ put-top-requires : tie.Need-put-top-requires
 put-top-requires c κs =
     let r : tie.After-count = search in
     let a = answered r in
-    top-fits (a .answer-pairs .ensures) _ (r .count .ensures) (start a .pre .1 .1)
+    let A = a .answer-pairs .ensures in
+    let e = r .count .ensures in
+    let U = start a .pre .0 .0 in
+    (top-fits A _ e (start a .pre .1 .1), size-short U, rotations-short U e, grade-short U A)
 
 put-pairs-requires : tie.Need-put-pairs-requires
 put-pairs-requires c κs =
@@ -34,7 +38,7 @@ put-pairs-requires c κs =
     let a = answered r in
     let A = a .answer-pairs .ensures in
     let fit = pairs-fit A _ (r .count .ensures) (t .put-top .ensures) (start a .pre .1 .1) in
-    (start a .pre .1 .0, A .pairs .letters-long, A .pairs .distances-long, fit)
+    (pairs-given (start a .pre .0 .0) A (start a .pre .1 .0), fit)
 
 returns : tie.Need-returns
 returns c =
