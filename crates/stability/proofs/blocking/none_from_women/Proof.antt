@@ -1,7 +1,6 @@
 -- `none_from_women` meets its contract: where the search from the women's side finds nobody, so does that from the
 -- men's. Assumes nothing.
 use mathlib.Core.Path.{sym, _∙_, refl}
-use borrow.Author.Needs.{needs}
 use borrow.Author.Tests.{eqb-true}
 use Rattle.laws.specs.First.{clash}
 use Rattle.stability.specs.Laws.EitherSide.{women-searchable, nobody-willing}
