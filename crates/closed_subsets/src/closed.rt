@@ -1,25 +1,28 @@
 // Closed sets: the marks of a set, the places of its matching, and whether these are stable and past its rotations and
 // no others, which is whether it is closed.
 use book::mark_in;
+use extremes::write_matching;
+use format::Checked;
 use format::Instance;
 use matchings::Places;
 use precedence::next_start;
 use precedence::past;
 use rotation_elimination::eliminate;
+use stability::judge;
 ghost use mathlib.Core.Path.{_≡_};
 ghost use mathlib.Core.Bool.{not};
 ghost use Prim.Native.Nat.{ℕ, _*_, _≤_};
 ghost use lib.Dec.{ltb, eqb};
 ghost use lib.ListN.{length, take};
-ghost use Rattle.tables.specs.Lists.{Tables, tables, market, Sound};
 ghost use Rattle.laws.specs.Moment.{now₀, now₁, vec₀};
 ghost use Rattle.format.specs.Record.{Record, lent};
-ghost use Rattle.instances.specs.Usable.{Usable, marketIn};
+ghost use Rattle.instances.specs.Usable.{marketIn};
 ghost use Rattle.laws.specs.Choice.{pick, either};
 ghost use Rattle.laws.specs.First.{some};
 ghost use Rattle.laws.specs.Values.{vec};
 ghost use Rattle.format.specs.Format.{largest, markIn};
-ghost use Rattle.stable_theory.specs.Stable.Vector.{Within};
+ghost use Rattle.stability.specs.Blocking.{OnLists};
+ghost use Rattle.stability.specs.Judge.{FromFine};
 ghost use Rattle.rotations.specs.Sets.{member};
 ghost use Rattle.rotation_elimination.specs.Written.{rotationIn};
 ghost use Rattle.precedence.specs.ListRead.{pastNumber, Readable};
@@ -111,42 +114,38 @@ fn has_set(n: usize, ranks: &[u16], list: &[u16], set: &[u8], places: &[u16]) ->
     true
 }
 
-// Whether the first n places of two vectors are the same.
-fn same_places(n: usize, p: &[u16], q: &[u16]) -> bool
-    requires { ⌜ (n ≤ length (now p)) × (n ≤ length (now q)) ⌝ }
-    ensures { λ r. ⌜ AgreeIs n (vec₀ p) (vec₀ q) r ⌝ }
-{
-    let mut i = 0;
-    while i < n {
-        if p[i] != q[i] {
-            return false;
-        }
-        i += 1;
-    }
-    true
-}
-
-// Whether places are stable: whether deferred acceptance from them leaves them as they are and calls them stable.
-fn is_stable<'a>(
+// Whether places on the men's lists are stable: whether the check finds nothing against the matching of the women
+// there.
+fn is_stable(
     n: usize,
-    mlists: &'a [u16],
-    wlists: &'a [u16],
-    wranks: &'a [u16],
+    mlists: &[u16],
+    mranks: &[u16],
+    wlists: &[u16],
+    wranks: &[u16],
     men: [u16; Instance::LARGEST],
 ) -> bool
-    ghost { Tables }
-    requires { λ K. ⌜ tables n n mlists wlists wranks ≡ K ⌝ }
-    requires { λ K. ⌜ Sound K × (n ≤ largest) ⌝ }
-    requires { λ K. ⌜ Within (market K) (vec men) × (length men ≡ largest) ⌝ }
-    ensures { λ K r. ⌜ StableIs (market K) (vec men) r ⌝ }
+    ghost { Record }
+    requires { λ R. ⌜ lent n mlists mranks wlists wranks ≡ R ⌝ }
+    requires { λ R. ⌜ FromFine R ⌝ }
+    requires { λ _. ⌜ OnLists n (now mlists) men ⌝ }
+    ensures { λ R r. ⌜ StableIs (marketIn R) (vec men) r ⌝ }
 {
-    let mut p = men;
-    let mut t = [0u16; Instance::LARGEST];
-    let stable = deferred::least(n, n, mlists, wlists, wranks, &mut p[..n], &mut t[..n]);
-    if !stable {
+    let mut matching = [0u8; Instance::LARGEST];
+    write_matching(n, mlists, &men, &mut matching[..]);
+    let judged = judge(
+        Checked::Fine,
+        n,
+        mlists,
+        mranks,
+        wlists,
+        wranks,
+        &matching[..n],
+    );
+    let checked = judged.checked;
+    let Checked::Fine = checked else {
         return false;
-    }
-    same_places(n, &p, &men)
+    };
+    true
 }
 
 // The places of a set: its rotations eliminated from the student-best places.
@@ -170,25 +169,25 @@ pub fn set_places<'a>(
 }
 
 // Whether places are stable and past the rotations of a set and no others.
-pub fn closes<'a>(
+pub fn closes(
     n: usize,
-    mlists: &'a [u16],
-    mranks: &'a [u16],
-    wlists: &'a [u16],
-    wranks: &'a [u16],
+    mlists: &[u16],
+    mranks: &[u16],
+    wlists: &[u16],
+    wranks: &[u16],
     list: &[u16],
     set: &[u8],
     men: [u16; Instance::LARGEST],
 ) -> bool
     ghost { Record }
     requires { λ R. ⌜ lent n mlists mranks wlists wranks ≡ R ⌝ }
-    requires { λ R. ⌜ Usable R ⌝ }
-    requires { λ R. ⌜ Within (marketIn R) (vec men) × (length men ≡ largest) ⌝ }
+    requires { λ R. ⌜ FromFine R ⌝ }
+    requires { λ _. ⌜ OnLists n (now mlists) men ⌝ }
     requires { λ _. ⌜ Readable n (length (now set)) (now list) ⌝ }
     ensures { λ R r. ⌜ ClosesIs (marketIn R) (vec men) (length (now₀ set))
         (pastNumber n (now₀ mranks) (now₀ list) (vec men)) (member (now₀ set)) r ⌝ }
 {
-    if !is_stable(n, mlists, wlists, wranks, men) {
+    if !is_stable(n, mlists, mranks, wlists, wranks, men) {
         return false;
     }
     has_set(n, mranks, list, set, &men)

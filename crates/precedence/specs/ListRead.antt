@@ -20,9 +20,16 @@ startIn l (suc k) = startIn l k + (1 + 2 * vec l (startIn l k))
 abbrev pub numberIn : List ℕ → ℕ → Rotation
 numberIn l k = rotationIn l (startIn l k)
 
--- the places are past the rotation at `at`: its first man is at or after the place of the second pair's woman
+-- the first man of the rotation at `at`, and the place to which it moves him, that of the second pair's woman
+abbrev pub firstMan : List ℕ → ℕ → ℕ
+firstMan l at = vec l (at + 1)
+
+abbrev pub placeAfter : ℕ → List ℕ → List ℕ → ℕ → ℕ
+placeAfter n ranks l at = cell ranks n (vec l (at + 1)) (vec l (at + 4))
+
+-- the places are past it: he is at or after that place
 unfoldable pub pastIn : ℕ → List ℕ → List ℕ → ℕ → (ℕ → ℕ) → Bool
-pastIn n ranks l at p = leb (cell ranks n (vec l (at + 1)) (vec l (at + 4))) (p (vec l (at + 1)))
+pastIn n ranks l at p = leb (placeAfter n ranks l at) (p (firstMan l at))
 
 -- whether they are past rotation number k of the list
 abbrev pub pastNumber : ℕ → List ℕ → List ℕ → (ℕ → ℕ) → ℕ → Bool
@@ -38,3 +45,9 @@ pub record Readable (n z : ℕ) (l : List ℕ) : Type 0 where
   pub within : (k : ℕ) → k ≤ z → startIn l k ≤ length l
   pub turnable : (k : ℕ) → k < z → Turnable n n (numberIn l k)
   pub two : (k : ℕ) → k < z → 2 ≤ vec l (startIn l k)
+
+-- what that test reads of a rotation
+pub record Front (n : ℕ) (l : List ℕ) (at : ℕ) : Type 0 where
+  pub room : at + 4 < length l
+  pub man : vec l (at + 1) < n
+  pub woman : vec l (at + 4) < n

@@ -11,11 +11,12 @@ ghost use Rattle.laws.specs.Values.{vec};
 ghost use Rattle.format.specs.Verdict.{verdictOf};
 ghost use Rattle.format.specs.Format.{entryIn};
 ghost use Rattle.sheets.specs.Line.{topLine, pairLine, pairLines, refusalLine, refusedLine};
-ghost use Rattle.sheet_text.specs.Put.{Put};
+ghost use Rattle.sheet_text.specs.Put.{Put, FourDigits, PairsGiven};
 
 // Line one: n, the number of rotations, the grade.
 pub fn put_top(out: &mut [u8], at: usize, n: usize, rotations: usize, grade: usize) -> usize
-    requires { ⌜ at + length (topLine n rotations grade) ≤ length (now out) ⌝ }
+    requires { ⌜ (at + length (topLine n rotations grade) ≤ length (now out)) ×
+        FourDigits n × FourDigits rotations × FourDigits grade ⌝ }
     ensures { λ r. ⌜ Put (now₀ out) at (topLine n rotations grade) (now₁ out) r ⌝ }
 {
     let second = put_field(out, at, n, b' ');
@@ -32,7 +33,8 @@ fn put_pair(
     letter: u8,
     distance: usize,
 ) -> usize
-    requires { ⌜ at + length (pairLine man woman letter distance) ≤ length (now out) ⌝ }
+    requires { ⌜ (at + length (pairLine man woman letter distance) ≤ length (now out)) ×
+        FourDigits man × FourDigits woman × FourDigits distance ⌝ }
     ensures { λ r. ⌜ Put (now₀ out) at (pairLine man woman letter distance) (now₁ out) r ⌝ }
 {
     let second = put_field(out, at, man, b' ');
@@ -51,8 +53,8 @@ pub fn put_pairs(
     letters: &[u8],
     distances: &[usize],
 ) -> usize
-    requires { ⌜ (n ≤ length (now matching)) × (n ≤ length (now letters)) × (n ≤ length (now distances)) ×
-        (at + length (pairLines (entryIn (now matching)) (vec (now letters)) (vec (now distances)) n) ≤ length (now out)) ⌝ }
+    requires { ⌜ PairsGiven n (now matching) (now letters) (now distances) ⌝ }
+    requires { ⌜ at + length (pairLines (entryIn (now matching)) (vec (now letters)) (vec (now distances)) n) ≤ length (now out) ⌝ }
     ensures { λ r. ⌜ Put (now₀ out) at (pairLines (entryIn (now₀ matching)) (vec₀ letters) (vec₀ distances) n) (now₁ out) r ⌝ }
 {
     let mut end = at;
@@ -69,7 +71,7 @@ pub fn put_pairs(
 
 // The line of a refusal, at the front.
 fn put_refusal(out: &mut [u8], number: usize) -> usize
-    requires { ⌜ length (refusalLine number) ≤ length (now out) ⌝ }
+    requires { ⌜ (length (refusalLine number) ≤ length (now out)) × FourDigits number ⌝ }
     ensures { λ r. ⌜ Put (now₀ out) 0 (refusalLine number) (now₁ out) r ⌝ }
 {
     let second = bytes::copy(b"refused ", out);

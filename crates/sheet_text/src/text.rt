@@ -3,8 +3,8 @@ ghost use mathlib.Core.List.{[], _∷_, _++_};
 ghost use Prim.Native.Nat.{_+_, _<_, _≤_};
 ghost use lib.ListN.{length};
 ghost use Rattle.laws.specs.Moment.{now₀, now₁};
-ghost use Rattle.sheets.specs.Decimal.{decimal};
-ghost use Rattle.sheet_text.specs.Put.{Put};
+ghost use Rattle.sheets.specs.Decimal.{digit, decimal};
+ghost use Rattle.sheet_text.specs.Put.{Put, FourDigits};
 
 // Puts one byte.
 pub(crate) fn put_byte(out: &mut [u8], at: usize, byte: u8) -> usize
@@ -15,21 +15,42 @@ pub(crate) fn put_byte(out: &mut [u8], at: usize, byte: u8) -> usize
     at + 1
 }
 
-// Puts the digits of x.
-pub(crate) fn put_decimal(out: &mut [u8], at: usize, x: usize) -> usize
-    requires { ⌜ at + length (decimal x) ≤ length (now out) ⌝ }
+// Puts the digit d.
+fn put_digit(out: &mut [u8], at: usize, d: usize) -> usize
+    requires { ⌜ (at < length (now out)) × (d < 10) ⌝ }
+    ensures { λ r. ⌜ Put (now₀ out) at (digit d ∷ []) (now₁ out) r ⌝ }
+{
+    put_byte(out, at, 48 + d as u8)
+}
+
+// Puts the digits of x, of which there are one or two.
+fn put_two(out: &mut [u8], at: usize, x: usize) -> usize
+    requires { ⌜ (at + length (decimal x) ≤ length (now out)) × (x < 100) ⌝ }
     ensures { λ r. ⌜ Put (now₀ out) at (decimal x) (now₁ out) r ⌝ }
 {
     if x < 10 {
-        return put_byte(out, at, 48 + x as u8);
+        return put_digit(out, at, x);
     }
-    let last = put_decimal(out, at, x / 10);
-    put_byte(out, last, 48 + (x % 10) as u8)
+    let last = put_digit(out, at, x / 10);
+    put_digit(out, last, x % 10)
+}
+
+// Puts the digits of x, of which there are at most four.
+pub(crate) fn put_decimal(out: &mut [u8], at: usize, x: usize) -> usize
+    requires { ⌜ (at + length (decimal x) ≤ length (now out)) × FourDigits x ⌝ }
+    ensures { λ r. ⌜ Put (now₀ out) at (decimal x) (now₁ out) r ⌝ }
+{
+    if x < 100 {
+        return put_two(out, at, x);
+    }
+    let third = put_two(out, at, x / 100);
+    let last = put_digit(out, third, x / 10 % 10);
+    put_digit(out, last, x % 10)
 }
 
 // Puts the digits of x and the byte that follows the field.
 pub(crate) fn put_field(out: &mut [u8], at: usize, x: usize, after: u8) -> usize
-    requires { ⌜ at + length (decimal x) < length (now out) ⌝ }
+    requires { ⌜ (at + length (decimal x) < length (now out)) × FourDigits x ⌝ }
     ensures { λ r. ⌜ Put (now₀ out) at (decimal x ++ (after ∷ [])) (now₁ out) r ⌝ }
 {
     let end = put_decimal(out, at, x);

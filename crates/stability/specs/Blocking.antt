@@ -10,7 +10,9 @@ use Rattle.laws.specs.First.{first, some}
 use Rattle.laws.specs.Table.{cell}
 use Rattle.laws.specs.Values.{vec}
 use Rattle.tables.specs.Lists.{lenIn, atIn, Stored}
+use Rattle.format.specs.Record.{Record}
 use Rattle.format.specs.Verdict.{Verdict, fine, refused}
+use Rattle.instances.specs.Usable.{Usable}
 
 -- The woman at place k of man i's list ranks him above her own man
 unfoldable pub willing : ℕ → (mlists wranks women : List ℕ) → ℕ → ℕ → Bool
@@ -40,3 +42,9 @@ pub record Searchable (n : ℕ) (mlists wranks women : List ℕ) : Type 0 where
 pub record OnLists (n : ℕ) (mlists men : List ℕ) : Type 0 where
   pub long : n ≤ length men
   pub on : {i : ℕ} → i < n → vec men i < lenIn n n mlists i
+
+-- What the check asks: tables that can be worked on, and places on the lists of both sides
+pub record Checkable (R : Record) (men women : List ℕ) : Type 0 where
+  pub usable : Usable R
+  pub men-on : OnLists (R .n) (R .mlists) men
+  pub women-on : OnLists (R .n) (R .wlists) women

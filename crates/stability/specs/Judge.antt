@@ -5,6 +5,7 @@ use mathlib.Core.List.{List}
 use lib.ListN.{length, replicate}
 use Rattle.laws.specs.Values.{vec}
 use Rattle.format.specs.declared.verdict.Checked.{Checked}
+use Rattle.format.specs.declared.verdict.Checked.the-variants.{Fine}
 use Rattle.format.specs.declared.record.Instance.{Instance}
 use Rattle.format.specs.Verdict.{verdictOf}
 use Rattle.format.specs.Format.{largest, people}
@@ -34,6 +35,10 @@ instanceOf answer R = record { checked = answer; n = R .n }
 pub record FromBook (answer : Checked) (R : Record) : Type 0 where
   pub book : List ℕ
   pub recorded : Recorded book (instanceOf answer R) R
+
+-- The tables are made of some book in which nothing is refused
+abbrev pub FromFine : Record → Type 0
+FromFine R = FromBook Fine R
 
 -- What holds of each book of which they are made
 abbrev pub EachBook : Checked → Record → (List ℕ → Type 0) → Type 0

@@ -1,17 +1,23 @@
 // The search for a blocking pair, over the men's lists and the women's ranks: for man i only the women before his own
-// place can block, and a woman does where she ranks him above her own man.
+// place can block, and a woman does where she ranks him above her own man. It reads the places before the men's own, so
+// where the women's places have the lower sum it is made first on the exchanged tables.
 use format::Checked;
 use format::Refusal;
 use tables::entry;
 use tables::list_at;
 use tables::wide;
 ghost use mathlib.Core.Path.{_≡_};
+ghost use mathlib.Core.Bool.{true};
 ghost use Prim.Native.Nat.{_≤_, _<_};
+ghost use lib.ListN.{length};
 ghost use Rattle.laws.specs.First.{first};
-ghost use Rattle.laws.specs.Moment.{now₀};
+ghost use Rattle.laws.specs.Moment.{now₀, vec₀};
+ghost use Rattle.laws.specs.Sum.{sum};
+ghost use Rattle.format.specs.Format.{largest};
+ghost use Rattle.format.specs.Record.{Record, lent};
 ghost use Rattle.format.specs.Verdict.{verdictOf};
 ghost use Rattle.tables.specs.Lists.{lenIn};
-ghost use Rattle.stability.specs.Blocking.{willing, lowestWilling, checkTables, Searchable, OnLists};
+ghost use Rattle.stability.specs.Blocking.{willing, lowestWilling, checkTables, Searchable, OnLists, Checkable};
 
 // The first of the places before `end` on man i's list at which a woman ranks him above her own man, or `end`.
 fn first_willing(
@@ -54,18 +60,60 @@ fn lowest_willing(n: usize, mlists: &[u16], wranks: &[u16], men: &[u16], women: 
     i
 }
 
-// Rule 10: that man, and the woman at the first such place.
+// The sum of the first n places.
+fn sum_of(n: usize, places: &[u16]) -> usize
+    requires { ⌜ (n ≤ largest) × (n ≤ length (now places)) ⌝ }
+    ensures { λ r. ⌜ r ≡ sum n (vec₀ places) ⌝ }
+{
+    let mut all = 0;
+    let mut i = 0;
+    while i < n {
+        all += wide(places[i]);
+        i += 1;
+    }
+    all
+}
+
+// Whether it is seen from the women's side that no pair blocks: their places have the lower sum, and before no woman's
+// own place stands a man who ranks her above his own woman.
+fn none_from_women<'a>(
+    n: usize,
+    mlists: &[u16],
+    mranks: &[u16],
+    wlists: &[u16],
+    wranks: &[u16],
+    men: &'a [u16],
+    women: &'a [u16],
+) -> bool
+    ghost { Record }
+    requires { λ R. ⌜ lent n mlists mranks wlists wranks ≡ R ⌝ }
+    requires { λ R. ⌜ Checkable R (now men) (now women) ⌝ }
+    ensures { λ _ r. ⌜ (r ≡ true → lowestWilling n (now₀ mlists) (now₀ wranks) (now₀ men) (now₀ women) ≡ n) ⌝ }
+{
+    if sum_of(n, men) <= sum_of(n, women) {
+        return false;
+    }
+    lowest_willing(n, wlists, mranks, women, men) == n
+}
+
+// Rule 10: the lowest man with such a woman, and the first such woman on his list.
 pub(crate) fn check_stable<'a>(
     n: usize,
     mlists: &[u16],
+    mranks: &[u16],
+    wlists: &[u16],
     wranks: &[u16],
     men: &'a [u16],
     women: &'a [u16],
 ) -> Checked
-    requires { ⌜ Searchable n (now mlists) (now wranks) (now women) ⌝ }
-    requires { ⌜ OnLists n (now mlists) (now men) ⌝ }
-    ensures { λ r. ⌜ verdictOf r ≡ checkTables n (now₀ mlists) (now₀ wranks) (now₀ men) (now₀ women) ⌝ }
+    ghost { Record }
+    requires { λ R. ⌜ lent n mlists mranks wlists wranks ≡ R ⌝ }
+    requires { λ R. ⌜ Checkable R (now men) (now women) ⌝ }
+    ensures { λ _ r. ⌜ verdictOf r ≡ checkTables n (now₀ mlists) (now₀ wranks) (now₀ men) (now₀ women) ⌝ }
 {
+    if none_from_women(n, mlists, mranks, wlists, wranks, men, women) {
+        return Checked::Fine;
+    }
     let i = lowest_willing(n, mlists, wranks, men, women);
     if n <= i {
         return Checked::Fine;

@@ -51,7 +51,15 @@ pub fn judge(
         return unplaced(listed);
     };
     let places = places_of(n, mranks, wranks, matching);
-    let checked = check_stable(n, mlists, wranks, &places.men, &places.women);
+    let checked = check_stable(
+        n,
+        mlists,
+        mranks,
+        wlists,
+        wranks,
+        &places.men,
+        &places.women,
+    );
     let Checked::Fine = checked else {
         return unplaced(checked);
     };

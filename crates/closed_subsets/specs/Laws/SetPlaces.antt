@@ -14,7 +14,6 @@ use Rattle.laws.specs.Choice.{tested}
 use Rattle.laws.specs.Values.{vec}
 use Rattle.format.specs.Format.{largest}
 use Rattle.stable_theory.specs.Stable.Market.{Market}
-use Rattle.stable_theory.specs.Stable.Vector.{Within}
 use Rattle.stable_theory.specs.Stable.Holding.{Same}
 use Rattle.stable_theory.specs.Rotations.Rotation.{Rotation, Exposed, SamePairs, eliminate}
 use Rattle.stable_theory.specs.Rotations.Eliminate.{turn, turn-in, eliminate-in, eliminate-out}
@@ -70,17 +69,17 @@ module _ (I : Market) (s : ℕ → Bool) where
       (λ a. after-in ρ p k a i ∙ (eliminate-same I (h k (omega arith)) (after I ρ p s k) i ∙ (eliminate-agree I (σ k) ih i u ∙ sym (after-in σ q k a i))))
       (λ a. after-out ρ p k a i ∙ (ih i u ∙ sym (after-out σ q k a i)))
 
-  -- places on the lists stay there
-  pub after-within : {ρ : ℕ → Rotation} {p : ℕ → ℕ} (k : ℕ) (v : ℕ → ℕ → ℕ) → ((j : ℕ) → j < k → Exposed I (v j) (ρ j)) → Within I p → Within I (after I ρ p s k)
+  -- who is placed stays so
+  pub after-placed :
+      {ρ : ℕ → Rotation} {p : ℕ → ℕ} (k : ℕ) (v : ℕ → ℕ → ℕ) → ((j : ℕ) → j < k → Exposed I (v j) (ρ j)) →
+      ((i : ℕ) → i < I .proposers .size → p i < I .proposers .len i) → (i : ℕ) → i < I .proposers .size → after I ρ p s k i < I .proposers .len i
   unfolding after
-  after-within zero v X W = W
-  after-within {ρ} {p} (suc k) v X W =
-      let ih = after-within {ρ = ρ} k v (λ j g. X j (omega arith)) W in
+  after-placed zero v X on i u = on i u
+  after-placed {ρ} {p} (suc k) v X on i u =
       let Y = X k (omega arith) in
-      record {
-        bound = λ {i} u. tested (s k)
-            (λ a. turn Y i
-            (λ t. omega (arith, after-in ρ p k a i, eliminate-in I (ρ k) (after I ρ p s k) (turn-in t), eliminate-in I (ρ k) (v k) (turn-in t), t .to, t .next .pair .lists))
-            (λ o. omega (arith, after-in ρ p k a i, eliminate-out I (ρ k) (after I ρ p s k) o, ih .bound u)))
-            (λ a. omega (arith, after-out ρ p k a i, ih .bound u));
-      }
+      let before = after-placed {ρ = ρ} k v (λ j g. X j (omega arith)) on i u in
+      tested (s k)
+      (λ a. turn Y i
+      (λ t. omega (arith, after-in ρ p k a i, eliminate-in I (ρ k) (after I ρ p s k) (turn-in t), eliminate-in I (ρ k) (v k) (turn-in t), t .to, t .next .pair .lists))
+      (λ o. omega (arith, after-in ρ p k a i, eliminate-out I (ρ k) (after I ρ p s k) o)))
+      (λ a. omega (arith, after-out ρ p k a i))

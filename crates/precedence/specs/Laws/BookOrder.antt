@@ -5,7 +5,7 @@ use mathlib.Core.Bool.{Bool, false, not}
 use mathlib.Core.List.{List}
 use native.Mathlib.Omega.{arith}
 use lib.Dec.{leb}
-use borrow.Author.Tests.{le-leb, lt-leb, eq-eqb, ne-eqb}
+use borrow.Author.Tests.{le-leb, lt-leb, leb-true, eq-eqb, ne-eqb}
 use Rattle.format.specs.Record.{Record}
 use Rattle.instances.specs.Usable.{marketIn}
 use Rattle.instances.specs.Laws.BookTables.{usable-alike}
@@ -15,14 +15,15 @@ use Rattle.format.specs.Verdict.{fine, refused, broken, rule}
 use Rattle.format.specs.Laws.Verdict.{stays, goes-on}
 use Rattle.format.specs.Check.{checkBook}
 use Rattle.stable_theory.specs.Stable.Holding.{Same}
-use Rattle.stable_theory.specs.Stable.Alike.{Alike, alike-sym}
+use Rattle.stable_theory.specs.Stable.Alike.{Alike, alike-sym, stable-alike}
 use Rattle.stable_theory.specs.Least.Optimal.{proposer-optimal}
-use Rattle.stable_theory.specs.Least.LeastAlike.{least-alike}
-use Rattle.stable_theory.specs.Rotations.Rotation.{SamePairs, passed}
+use Rattle.stable_theory.specs.Rotations.Rotation.{SamePairs, eliminate, passed}
 use Rattle.stable_theory.specs.Rotations.Numbering.{rotation}
 use Rattle.stable_theory.specs.Rotations.SameRotation.{passed-agree}
+use Rattle.stable_theory.specs.Rotations.EliminateStable.{eliminate-stable}
+use Rattle.stable_theory.specs.Rotations.OneRotation.{eliminated-passed}
+use Rattle.stable_theory.specs.Rotations.Precedence.{required-stable, required-upto, required-passed}
 use Rattle.stable_theory.specs.Rotations.Subset.{prefix, required, precedes}
-use Rattle.stable_theory.specs.Rotations.RotationAlike.{exposed-alike, eliminate-alike, eliminate-same}
 use Rattle.matchings.specs.BookMarket.{market, market-proper}
 use Rattle.rotation_numbering.specs.declared.numbering.Extent.{Extent}
 use Rattle.rotation_numbering.specs.Numbering.{NumberingOf}
@@ -30,9 +31,8 @@ use Rattle.rotations.specs.RotationList.{rotationCount}
 use Rattle.instances.specs.Laws.Read.{Read, read-usable}
 use Rattle.rotation_list.specs.Laws.BookList.{before-stable, numbered-exposed, book-numbered}
 use Rattle.precedence.specs.ListRead.{startIn, numberIn, pastIn, Readable}
-use Rattle.precedence.specs.Required.{requiredPlaces}
+use Rattle.precedence.specs.LeastPast.{SomePast, LeastPast, PastLeast}
 use Rattle.precedence.specs.Laws.ListRead.{number-same, lists-readable, past-passed}
-use Rattle.precedence.specs.Laws.Required.{from-zeros, zeros-within}
 use Rattle.rotations.specs.Precedence.{checkNumbers, bookPrecedes}
 
 module _ {b : List ℕ} {r : Record} (R : Read b r) where
@@ -73,26 +73,45 @@ module _ {b : List ℕ} {r : Record} (R : Read b r) where
         past-passed (book-numbered R N .lists) (market-proper (R .formed)) exposing (λ k h. before-stable R k (omega arith)) (λ k h. numbered-exposed R h)
         (r .n) (r .mranks) q h book-ranks
 
-    -- the least places past a rotation are the theory's
-    book-required : {k : ℕ} → k < rotationCount b → Same (market b) (requiredPlaces (marketIn r) (numberIn numbers k)) (required (market b) (rotation (market b) k))
-    unfolding required
-    book-required {k} h i u =
-        let U = read-usable R in
+    -- the vector after rotation k is eliminated is past it
+    pub book-some : {k : ℕ} → k < rotationCount b → SomePast r numbers (startIn numbers k)
+    unfolding pastIn exposing
+    book-some {k} h =
+        let M = market-proper (R .formed) in
+        let P = before-stable R k (omega arith) in
+        let X = numbered-exposed R h in
+        let v = eliminate (market b) (rotation (market b) k) (exposing k) in
+        record {
+          vector = v;
+          stable = stable-alike (alike-sym book-alike) (λ i u. refl) (eliminate-stable M P X);
+          there = leb-true _ _ (book-past v h ∙ eliminated-passed M P X);
+        }
+
+    -- the least stable places past it are the theory's
+    book-least : {k : ℕ} → k < rotationCount b → {p : ℕ → ℕ} → LeastPast r numbers (startIn numbers k) p → Same (market b) p (required (market b) (rotation (market b) k))
+    unfolding pastIn exposing
+    book-least {k} h {p} L i u =
+        let M = market-proper (R .formed) in
         let A = book-alike in
-        let T = book-readable .turnable k h in
-        let X = exposed-alike (alike-sym A) (λ j v. refl) (numbered-exposed R h) in
-        least-alike (U .men .proper) (market-proper (R .formed)) A
-        (λ j v. eliminate-same (marketIn r) (book-number h) (λ i. 0) j ∙ eliminate-alike A X (λ l w. refl) j v)
-        (zeros-within (from-zeros U T)) i (omega (arith, A .proposing .size))
+        let P = before-stable R k (omega arith) in
+        let X = numbered-exposed R h in
+        let q = required (market b) (rotation (market b) k) in
+        let here = stable-alike A (λ i u. refl) (L .stable) in
+        let there = stable-alike (alike-sym A) (λ i u. refl) (required-stable M P X) in
+        omega (
+          arith,
+          required-upto M P X here (sym (book-past p h) ∙ le-leb _ _ (L .there)) i u,
+          L .first there (leb-true _ _ (book-past q h ∙ required-passed M P X)) i (omega (arith, A .proposing .size)),
+        )
 
     -- so the answer is document 01's
-    pub book-precedes : {j k : ℕ} → j < rotationCount b → k < rotationCount b → (j ≡ k → ⊥) →
-        pastIn (r .n) (r .mranks) numbers (startIn numbers j) (requiredPlaces (marketIn r) (numberIn numbers k)) ≡ bookPrecedes b j k
+    pub book-precedes : {j k : ℕ} → j < rotationCount b → k < rotationCount b → (j ≡ k → ⊥) → {answer : Bool} → PastLeast r numbers j k answer → answer ≡ bookPrecedes b j k
     unfolding precedes
-    book-precedes {j} {k} g h ne =
-        book-past (requiredPlaces (marketIn r) (numberIn numbers k)) g
-        ∙ (passed-agree (numbered-exposed R g) (book-required h)
-        ∙ ap (λ (t : Bool). both (not t) (passed (market b) (rotation (market b) j) (required (market b) (rotation (market b) k)))) (sym (ne-eqb j k ne)))
+    book-precedes {j} {k} g h ne D =
+        D .says
+        ∙ (book-past (D .places) g
+        ∙ (passed-agree (numbered-exposed R g) (book-least h (D .least))
+        ∙ ap (λ (t : Bool). both (not t) (passed (market b) (rotation (market b) j) (required (market b) (rotation (market b) k)))) (sym (ne-eqb j k ne))))
 
 -- no rotation precedes itself
 pub precedes-itself : (b : List ℕ) {j k : ℕ} → j ≡ k → bookPrecedes b j k ≡ false

@@ -16,7 +16,7 @@ use Rattle.stable_theory.specs.Rotations.SameRotation.{same-sym}
 use Rattle.rotation_elimination.specs.Written.{Lists, Written, offset, rotationIn}
 use Rattle.rotation_elimination.specs.Laws.Written.{around-inside, written-in, exposed-turnable, turnable-same}
 use Rattle.rotation_numbering.specs.Laws.ListBytes.{offset-within}
-use Rattle.precedence.specs.ListRead.{startIn, numberIn, pastIn, Readable}
+use Rattle.precedence.specs.ListRead.{startIn, numberIn, pastIn, Readable, Front}
 
 -- the next rotation stands after it
 pub start-next : (l : List ℕ) (k : ℕ) {at next : ℕ} → at ≡ startIn l k → next ≡ at + (1 + 2 * vec l at) → next ≡ startIn l (k + 1)
@@ -27,11 +27,6 @@ pub start-room : {n z : ℕ} {l : List ℕ} → Readable n z l → {k at : ℕ} 
 start-room {l = l} R {k} h e = omega (arith, ap (vec l) e, R .within (suc k) h)
 
 -- what the test on places reads of rotation number k
-pub record Front (n : ℕ) (l : List ℕ) (at : ℕ) : Type 0 where
-  pub room : at + 4 < length l
-  pub man : vec l (at + 1) < n
-  pub woman : vec l (at + 4) < n
-
 pub readable-front : {n z : ℕ} {l : List ℕ} → Readable n z l → {k : ℕ} → k < z → Front n l (startIn l k)
 unfolding rotationIn
 readable-front {n} {z} {l} R {k} h =

@@ -1,6 +1,6 @@
 -- Sets of a book's rotations and matchings: what the code works out is what document 01 says. Assumes nothing.
 use Prim.Native.Nat.{ℕ, _≤_, _<_}
-use mathlib.Core.Path.{_≡_, refl, sym, _∙_}
+use mathlib.Core.Path.{_≡_, sym, _∙_}
 use mathlib.Core.Bool.{Bool, true}
 use mathlib.Core.List.{List, _++_}
 use native.Mathlib.Omega.{arith}
@@ -14,18 +14,19 @@ use Rattle.laws.specs.Values.{vec}
 use Rattle.format.specs.Verdict.{Verdict, fine}
 use Rattle.format.specs.Outcome.{filled}
 use Rattle.format.specs.Format.{people}
-use Rattle.stable_theory.specs.Stable.Vector.{Within, Stable}
+use Rattle.stable_theory.specs.Stable.Vector.{Stable}
 use Rattle.stable_theory.specs.Stable.Holding.{Same}
-use Rattle.stable_theory.specs.Stable.Alike.{alike-sym, within-alike, stable-alike}
+use Rattle.stable_theory.specs.Stable.Alike.{alike-sym, stable-alike}
 use Rattle.stable_theory.specs.Least.Optimal.{proposer-optimal, proposer-optimal-stable}
+use Rattle.stable_theory.specs.Matchings.Perfect.{stable-full}
 use Rattle.stable_theory.specs.Least.OptimalAlike.{proposer-optimal-alike}
 use Rattle.stable_theory.specs.Rotations.Numbering.{rotation}
 use Rattle.stable_theory.specs.Rotations.Subset.{vectorOf, setOf, prefix}
 use Rattle.stable_theory.specs.Rotations.SameRotation.{passed-agree}
 use Rattle.stable_theory.specs.Rotations.Demand2Theory.{theorem-1-matching, theorem-1-there, closed-exactly, closed-test}
 use Rattle.matchings.specs.declared.places.Places.{Places}
-use Rattle.matchings.specs.BookMarket.{market, market-proper}
-use Rattle.extremes.specs.Laws.ExtremeBytes.{places-writable, women-filled}
+use Rattle.matchings.specs.BookMarket.{market, market-proper, market-complete}
+use Rattle.extremes.specs.Laws.ExtremeBytes.{women-filled}
 use Rattle.rotation_numbering.specs.declared.numbering.Extent.{Extent}
 use Rattle.rotation_numbering.specs.Numbering.{NumberingOf}
 use Rattle.rotations.specs.RotationList.{rotationCount}
@@ -33,9 +34,11 @@ use Rattle.instances.specs.Laws.Read.{Read, read-usable}
 use Rattle.rotation_list.specs.Laws.BookList.{numbered-exposed}
 use Rattle.precedence.specs.Laws.BookOrder.{book-alike, book-ranks, book-number, book-past}
 use Rattle.precedence.specs.ListRead.{pastNumber}
+use Rattle.stability.specs.Blocking.{OnLists}
 use Rattle.closed_subsets.specs.SetPlaces.{RanksOf, SetPlaces}
 use Rattle.closed_subsets.specs.PlaceTests.{ClosesIs}
-use Rattle.closed_subsets.specs.Laws.SetPlaces.{after-same, after-within}
+use Rattle.closed_subsets.specs.Laws.SetPlaces.{after-same, after-placed}
+use Rattle.closed_subsets.specs.Laws.StablePlaces.{women-writable}
 use Rattle.rotations.specs.Sets.{member, closedSet, setVector, setMatching}
 
 module _ {b : List ℕ} {r : Record} (R : Read b r) {numbers : List ℕ} {s : Extent} (N : NumberingOf r numbers s) where
@@ -61,13 +64,23 @@ module _ {b : List ℕ} {r : Record} (R : Read b r) {numbers : List ℕ} {s : Ex
         ∙ rw marks (after-same (market b) (member set) (rotationCount b) (λ j h. book-number R N h) best i u)
 
     -- which are on the lists
-    pub set-within : Within (marketIn r) (vec men)
-    unfolding vectorOf
-    set-within =
-        let A = book-alike R in
-        let W = after-within (market b) (member set) (rotationCount b) (prefix (market b) (rotation (market b)) (proposer-optimal (market b))) (λ j h. numbered-exposed R h)
-        (proposer-optimal-stable (market-proper (R .formed)) .settled .within) in
-        within-alike (alike-sym A) (λ i u. sym (set-vector i u)) W
+    pub set-on : OnLists (r .n) (r .mlists) men
+    unfolding vectorOf market
+    set-on =
+        let U = read-usable R in
+        let M = market-proper (R .formed) in
+        let placed = after-placed (market b) (member set) (rotationCount b) (prefix (market b) (rotation (market b)) (proposer-optimal (market b))) (λ j h. numbered-exposed R h)
+        (λ i u. stable-full M (market-complete (R .formed)) (proposer-optimal-stable M) u) in
+        record {
+          long = omega (arith, S .long, U .few);
+          on = λ {i} u.
+              let v : i < people b = omega (arith, R .tables .number) in
+              omega (arith, set-vector i v, placed i v, book-alike R .proposing .len u);
+        }
+
+    -- so the women there can be written
+    pub set-writable : {out : List ℕ} → r .n ≤ length out → MatchingWritable (r .n) (r .mlists) men out
+    set-writable h = women-writable R set-on h
 
     -- stable in the record's market and in the book's
     here-there : Stable (marketIn r) (vec men) → Stable (market b) (setVector b set)
@@ -97,12 +110,7 @@ module _ {b : List ℕ} {r : Record} (R : Read b r) {numbers : List ℕ} {s : Ex
     closed-stable : closedSet b set ≡ true → Stable (marketIn r) (vec men)
     closed-stable c = there-here (theorem-1-matching (market-proper (R .formed)) (closed-test (market-proper (R .formed)) (member set) .0 c))
 
-    -- so they can be written, and are the matching of the set
-    pub set-writable : closedSet b set ≡ true → {out : List ℕ} → r .n ≤ length out → MatchingWritable (r .n) (r .mlists) men out
-    set-writable c h =
-        let U = read-usable R in
-        places-writable U (closed-stable c) (λ i u. refl) (omega (arith, S .long, U .few)) h
-
+    -- so what is written there is the matching of the set
     pub set-filled :
         closedSet b set ≡ true → {v : Verdict} → v ≡ fine → {n : ℕ} → n ≡ r .n → (out after : List ℕ) →
         after ≡ womenAt n (r .mlists) (vec men) ++ drop n out → after ≡ filled v (people b) (setMatching b set) out

@@ -27,6 +27,7 @@ use Rattle.matchings.specs.Laws.StableCheck.{fine-stable}
 use Rattle.matchings.specs.Laws.Numbers.{matching-most}
 use Rattle.repairs.specs.Repair.{answerFor}
 use Rattle.repairs.specs.Grade.{gradeOf}
+use Rattle.nearest.specs.Nearest.{farOf}
 use Rattle.sheets.specs.Line.{topLine, pairLines}
 use Rattle.sheets.specs.Longest.{longest}
 use Rattle.sheets.specs.Sheet.{letterOf, distanceOf, answers, sheetAfter, sheetFor, bookPart, matchingPart, sheetOf}
@@ -38,11 +39,18 @@ distance-most b m (U v) = count-most (people b) (λ i. not (eqb (womanOf (matchi
 distance-most b m (D v) = count-most (people b) (λ i. not (eqb (womanOf (matchingOf b v) i) (womanOf m i)))
 distance-most b m F = omega arith
 
+-- over a market too: it moves at most everybody
+pub far-most : (I : Market) (p : ℕ → ℕ) (a : Answer) → farOf I p a ≤ I .proposers .size
+unfolding weight
+far-most I p (U v) = count-most (I .proposers .size) (moved p v)
+far-most I p (D v) = count-most (I .proposers .size) (moved p v)
+far-most I p F = omega arith
+
 -- and so is its cost
 cost-most : (I : Market) (p : ℕ → ℕ) (s : ℕ) (a : Answer) → cost I (λ i. 1) p s a ≤ I .proposers .size
-unfolding cost weight
-cost-most I p s (U v) = omega (arith, count-most (I .proposers .size) (moved p v))
-cost-most I p s (D v) = omega (arith, count-most (I .proposers .size) (moved p v))
+unfolding cost
+cost-most I p s (U v) = omega (arith, far-most I p (U v))
+cost-most I p s (D v) = omega (arith, far-most I p (D v))
 cost-most I p s F = omega arith
 
 -- so is the grade

@@ -45,6 +45,16 @@ decimal-more x h = next-in x x h ∙ ap (λ (d : List ℕ). d ++ (digit (x % 10)
 pub decimal-longer : (x : ℕ) → 10 ≤ x → length (decimal x) ≡ length (decimal (x / 10)) + 1
 decimal-longer x h = ap length (decimal-more x h) ∙ length-append (decimal (x / 10)) (digit (x % 10) ∷ [])
 
+-- two more than those of the hundredth part
+pub decimal-hundreds : (x : ℕ) → 100 ≤ x → decimal x ≡ (decimal (x / 100) ++ (digit (x / 10 % 10) ∷ [])) ++ (digit (x % 10) ∷ [])
+decimal-hundreds x h =
+    let e : x / 10 / 10 ≡ x / 100 = omega arith in
+    decimal-more x (omega arith)
+    ∙ ap (λ (d : List ℕ). d ++ (digit (x % 10) ∷ [])) (decimal-more (x / 10) (omega arith) ∙ ap (λ (y : ℕ). decimal y ++ (digit (x / 10 % 10) ∷ [])) e)
+
+pub hundreds-longer : (x : ℕ) → 100 ≤ x → length (decimal x) ≡ length (decimal (x / 100)) + 2
+hundreds-longer x h = ap length (decimal-hundreds x h) ∙ simp length-append (omega arith)
+
 -- What holds of one digit, and of more where it holds of those of the tenth part, holds of every number's digits
 by-digits : (P : ℕ → List ℕ → Type 0) → ((x : ℕ) → x < 10 → P x (digit x ∷ [])) → ((x : ℕ) → 10 ≤ x → P (x / 10) (decimal (x / 10)) → P x (decimal (x / 10) ++ (digit (x % 10) ∷ [])))
     → (bound x : ℕ) → x < bound → P x (decimal x)

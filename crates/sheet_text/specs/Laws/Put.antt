@@ -9,7 +9,7 @@ use Rattle.laws.specs.Overwrite.{overwritten, overwritten-none, overwritten-on,
 use Rattle.sheets.specs.Decimal.{digit, decimal}
 use Rattle.sheets.specs.Line.{space, lineFeed, refusedWord, line, topLine, pairLine, refusalLine}
 use Rattle.sheet_text.specs.Put.{Put}
-use Rattle.sheet_text.specs.Laws.Decimal.{decimal-digit, decimal-more}
+use Rattle.sheet_text.specs.Laws.Decimal.{decimal-digit, decimal-more, decimal-hundreds}
 
 -- one byte
 pub put-one : (l : List ℕ) (i v : ℕ) → i < length l → Put l i (v ∷ []) (set l i v) (i + 1)
@@ -37,10 +37,15 @@ put-take {l} {vs} {m} {j} P = ap (take j) (P .bytes) ∙ take-at vs (drop (0 + l
 pub put-digit : {l : List ℕ} {i x : ℕ} {m : List ℕ} {j : ℕ} → x < 10 → Put l i (digit x ∷ []) m j → Put l i (decimal x) m j
 put-digit {x = x} h P = rw (decimal-digit x h) P
 
--- and of any other: those of its tenth part, and the last one
-pub put-digits : {l : List ℕ} {i x : ℕ} {m : List ℕ} {j : ℕ} {n : List ℕ} {k : ℕ} → 10 ≤ x → i ≤ length l → Put l i (decimal (x / 10)) m j → Put m j (digit (x % 10) ∷ []) n k
-    → Put l i (decimal x) n k
-put-digits {x = x} h u P Q = rw (decimal-more x h) (put-on P u Q)
+-- of a number below 100: that of its tenth part, and the last one
+pub put-tens : {l : List ℕ} {i x : ℕ} {m n : List ℕ} {j k : ℕ} → 10 ≤ x → x < 100 → i ≤ length l →
+    Put l i (digit (x / 10) ∷ []) m j → Put m j (digit (x % 10) ∷ []) n k → Put l i (decimal x) n k
+put-tens {x = x} h g u P Q = rw (decimal-more x h) (put-on (put-digit {x = x / 10} (omega arith) P) u Q)
+
+-- and of a number from 100 on: those of its hundredth part, and the last two
+pub put-hundreds : {l : List ℕ} {i x : ℕ} {a b c : List ℕ} {j k e : ℕ} → 100 ≤ x → i ≤ length l →
+    Put l i (decimal (x / 100)) a j → Put a j (digit (x / 10 % 10) ∷ []) b k → Put b k (digit (x % 10) ∷ []) c e → Put l i (decimal x) c e
+put-hundreds {x = x} h u P Q R = rw (decimal-hundreds x h) (put-on (put-on P u Q) u R)
 
 -- the buffer is as long as it was
 pub put-long : {l : List ℕ} {i : ℕ} {vs m : List ℕ} {j : ℕ} → Put l i vs m j → i + length vs ≤ length l → length m ≡ length l

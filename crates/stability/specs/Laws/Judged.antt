@@ -1,11 +1,12 @@
 -- What a caller of `judge` knows: the record and the answer are those of a book and a matching, and where nothing is
 -- refused the places are the two sides of one stable vector of the book's market. Assumes nothing.
 use Prim.Native.Nat.{ℕ}
-use mathlib.Core.Path.{_≡_, sym}
+use mathlib.Core.Path.{_≡_, refl, sym, _∙_}
 use mathlib.Core.List.{List}
 use Rattle.laws.specs.Values.{vec}
 use Rattle.format.specs.declared.verdict.Checked.{Checked}
-use Rattle.format.specs.Verdict.{fine}
+use Rattle.format.specs.declared.record.Instance.{Instance}
+use Rattle.format.specs.Verdict.{fine, verdictOf}
 use Rattle.format.specs.Format.{people}
 use Rattle.format.specs.Check.{checkBook}
 use Rattle.format.specs.WellFormed.{fine-well-formed}
@@ -19,7 +20,17 @@ use Rattle.matchings.specs.BookMarket.{market, market-proper}
 use Rattle.matchings.specs.Matching.{vectorOf, checkMatching, StableIn}
 use Rattle.matchings.specs.Laws.StableCheck.{fine-stable}
 use Rattle.matchings.specs.Laws.StableVector.{vector-stable}
-use Rattle.stability.specs.Judge.{JudgedIs, instanceOf, Judges}
+use Rattle.instances.specs.Usable.{Usable}
+use Rattle.instances.specs.Laws.Read.{record-read, read-usable}
+use Rattle.stability.specs.Judge.{JudgedIs, instanceOf, FromFine, Judges}
+
+-- What is made of a book in which nothing is refused
+pub from-fine : {b : List ℕ} {i : Instance} {R : Record} → Recorded b i R → verdictOf (i .checked) ≡ fine → FromFine R
+from-fine {b} B e = record { book = b; recorded = record { checked = sym e ∙ B .checked; tables = B .tables; number = refl } }
+
+-- can be worked on
+pub fine-usable : {R : Record} → FromFine R → Usable R
+fine-usable F = read-usable (record-read (F .recorded) refl)
 
 -- The record and the answer are those of a book and a matching
 pub record BookJudged (b m : List ℕ) (R : Record) (r : Judged) : Type 0 where

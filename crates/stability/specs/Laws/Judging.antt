@@ -1,6 +1,6 @@
 -- The steps of `judge`: what is known after each, and that the answer is right wherever it ends. Assumes nothing.
 use Prim.Native.Nat.{ℕ}
-use mathlib.Core.Path.{_≡_, refl, sym, _∙_, ap}
+use mathlib.Core.Path.{_≡_, refl, sym, _∙_, ap, subst}
 use mathlib.Core.List.{List}
 use native.Mathlib.Omega.{arith}
 use lib.ListN.{replicate}
@@ -12,7 +12,7 @@ use Rattle.format.specs.Verdict.{fine, refused, verdictOf}
 use Rattle.format.specs.Format.{largest, people}
 use Rattle.matchings.specs.Matching.{womanOf, vectorOf, checkNames, checkMatching, MatchingIn}
 use Rattle.format.specs.Check.{checkBook}
-use Rattle.format.specs.Record.{Record, RecordIs, Recorded}
+use Rattle.format.specs.Record.{Record, recordOf, RecordIs, Recorded}
 use Rattle.stable_theory.specs.Stable.Holder.{mirror}
 use Rattle.stable_theory.specs.Matchings.MatchingLaws.{places-placed}
 use Rattle.matchings.specs.declared.places.Places.{Places}
@@ -20,10 +20,10 @@ use Rattle.matchings.specs.declared.places.Judged.{Judged}
 use Rattle.matchings.specs.BookMarket.{market}
 use Rattle.matchings.specs.Laws.StableCheck.{names-matching, matching-stable, fine-stable}
 use Rattle.matchings.specs.Laws.StableVector.{mirror-man}
-use Rattle.stability.specs.Blocking.{checkTables, Searchable, OnLists}
+use Rattle.stability.specs.Blocking.{checkTables, Checkable}
 use Rattle.stability.specs.Placing.{Placeable, PlacesStored}
 use Rattle.stability.specs.Judge.{Entries, JudgedIs, Unplaced}
-use Rattle.stability.specs.Laws.TableCheck.{places-placeable, places-searchable, places-on-lists, man-place, woman-place, tables-stable}
+use Rattle.stability.specs.Laws.TableCheck.{places-placeable, places-checkable, man-place, woman-place, tables-stable}
 
 module _ {b : List ℕ} (m : List ℕ) {i : Instance} {R : Record} (B : Recorded b i R) where
   -- a refusal is the answer, with no places
@@ -75,15 +75,15 @@ module _ {b : List ℕ} (m : List ℕ) {i : Instance} {R : Record} (B : Recorded
       judge-placeable = rw (book-tables .number) (places-placeable matching book-tables)
 
       module _ {p : Places} (F : PlacesStored (R .n) (R .mranks) (R .wranks) m (R .n) (p .men) (p .women)) where
-        -- once they are, the search can be made
+        -- once they are, the check can be made
         placed : PlacesStored (people b) (R .mranks) (R .wranks) m (people b) (p .men) (p .women)
         placed = rw (book-tables .number) at F
 
-        pub judge-searchable : Searchable (R .n) (R .mlists) (R .wranks) (p .women)
-        judge-searchable = rw (book-tables .number) (places-searchable matching book-tables placed)
-
-        pub judge-on-lists : OnLists (R .n) (R .mlists) (p .men)
-        judge-on-lists = rw (book-tables .number) (places-on-lists matching book-tables placed)
+        pub judge-checkable : Checkable R (p .men) (p .women)
+        judge-checkable =
+            let e = sym (book-tables .number) in
+            subst (λ (n : ℕ). Checkable (recordOf n (R .mlists) (R .mranks) (R .wlists) (R .wranks)) (p .men) (p .women)) e
+            (places-checkable matching book-tables placed)
 
         module _ (checked : Checked) (v : verdictOf checked ≡ checkTables (R .n) (R .mlists) (R .wranks) (p .men) (p .women)) where
           -- its answer is the verdict

@@ -16,6 +16,7 @@ use Rattle.laws.specs.Within.{within-first, within-some}
 use Rattle.laws.specs.FrontStores.{front-stored}
 use Rattle.tables.specs.Lists.{lenIn, atIn}
 use Rattle.stable_theory.specs.Stable.Alike.{Alike}
+use Rattle.stable_theory.specs.Matchings.Perfect.{lists-all}
 use Rattle.format.specs.Verdict.{refused}
 use Rattle.format.specs.Format.{largest, people}
 use Rattle.matchings.specs.Matching.{womanOf, manRank, womanRank, manChoice, manOf, blocks, bestBlocking, lowestBlocking, checkStable, MatchingIn}
@@ -25,7 +26,7 @@ use Rattle.matchings.specs.Laws.StableCheck.{rank-lt, rank-choice, lowest-best}
 use Rattle.matchings.specs.Laws.StableVector.{man-of-lt, man-of-has}
 use Rattle.instances.specs.Usable.{Usable, marketIn}
 use Rattle.instances.specs.Laws.BookTables.{usable, usable-alike}
-use Rattle.stability.specs.Blocking.{willing, someWilling, lowestWilling, checkTables, Searchable, OnLists}
+use Rattle.stability.specs.Blocking.{willing, someWilling, lowestWilling, checkTables, Checkable}
 use Rattle.stability.specs.Placing.{Placeable, PlacesStored}
 
 module _ {b m : List ℕ} {R : Record} (A : MatchingIn b m) (T : RecordIs b (people b) R) where
@@ -71,11 +72,11 @@ module _ {b m : List ℕ} {R : Record} (A : MatchingIn b m) (T : RecordIs b (peo
     pub man-place : {i : ℕ} → i < people b → vec men i ≡ manRank b i (womanOf m i)
     man-place {i} u = front-stored (F .his) u ∙ man-rank u (A .names .below u)
 
+    woman-cell : {w : ℕ} → w < people b → vec women w ≡ cell (R .wranks) (people b) w (manOf (people b) m w)
+    woman-cell v = let e = man-of-has A v in rw e at (front-stored (F .hers) (man-of-lt A v))
+
     pub woman-place : {w : ℕ} → w < people b → vec women w ≡ womanRank b w (manOf (people b) m w)
-    woman-place {w} v =
-        let e = man-of-has A v in
-        let u = man-of-lt A v in
-        (rw e at (front-stored (F .hers) u)) ∙ woman-rank u v
+    woman-place v = woman-cell v ∙ woman-rank (man-of-lt A v) v
 
     -- a pair blocks where the woman is willing and before the man's place
     pair-blocks :
@@ -126,18 +127,19 @@ module _ {b m : List ℕ} {R : Record} (A : MatchingIn b m) (T : RecordIs b (peo
         let e = best-first l (sym (best-some l) ∙ lt-ltb _ _ h) in
         rw (lt-ltb _ _ l, ← e) (ap (refused 10 (lowestBlocking b m)) (man-list l h))))
 
-    -- what the search asks is there
-    pub places-searchable : Searchable (people b) (R .mlists) (R .wranks) women
-    places-searchable =
+    -- what the check asks is there
+    pub places-checkable : Checkable whole men women
+    places-checkable =
         record {
-          lists = sound .men .proposers;
-          ranks-long = sound .men .ranked;
-          women-long = omega (arith, F .hers .long, A .formed .few, length-replicate {A = ℕ} largest 0);
-        }
-
-    pub places-on-lists : OnLists (people b) (R .mlists) men
-    places-on-lists =
-        record {
-          long = omega (arith, F .his .long, A .formed .few, length-replicate {A = ℕ} largest 0);
-          on = λ u. omega (arith, place-lt u, full u);
+          usable = sound;
+          men-on = record {
+            long = omega (arith, F .his .long, A .formed .few, length-replicate {A = ℕ} largest 0);
+            on = λ u. omega (arith, place-lt u, full u);
+          };
+          women-on = record {
+            long = omega (arith, F .hers .long, A .formed .few, length-replicate {A = ℕ} largest 0);
+            on = λ v.
+                let u = man-of-lt A v in
+                omega (arith, woman-cell v, sound .men .agrees .rank v u, lists-all (sound .men .proper) (sound .complete) u v .listed);
+          };
         }

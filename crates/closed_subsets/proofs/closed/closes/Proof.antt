@@ -1,18 +1,18 @@
 -- `closes` meets its contract: unstable places close no set, and stable ones where the tests agree. Assumes nothing.
-use native.Mathlib.Omega.{arith}
 use borrow.Author.Tests.{not-true, not-false}
 use Rattle.closed_subsets.specs.Laws.PlaceTests.{closes-unstable, closes-stable}
+use Rattle.stability.specs.Laws.Judged.{fine-usable}
 use borrow.Author.Needs.{needs}
 use Rattle.closed_subsets.proofs.closed.closes.Statement.{statement}
 use Rattle.closed_subsets.proofs.closed.closes.Tie as tie
 
 is-stable-requires : tie.Need-is-stable-requires
-is-stable-requires c κs = let s : tie.Start = search in ((s .pre .0 .men, s .pre .0 .few), s .pre .1 .0)
+is-stable-requires c κs = let s : tie.Start = search in (s .pre .0, s .pre .1 .0)
 
 has-set-requires : tie.Need-has-set-requires
 has-set-requires c κs =
     let s : tie.Start = search in
-    (s .pre .1 .1, (omega (arith, s .pre .0 .few, s .pre .1 .0 .1), s .pre .0 .women .ranked))
+    (s .pre .1 .1, (s .pre .1 .0 .long, fine-usable (s .pre .0) .women .ranked))
 
 returns-2 : tie.Need-returns-2
 returns-2 c =

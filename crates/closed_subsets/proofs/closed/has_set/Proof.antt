@@ -6,8 +6,8 @@ use native.Mathlib.Omega.{arith}
 use lib.ListN.{length}
 use borrow.Author.Tests.{not-true, not-false}
 use Rattle.laws.specs.Values.{vec}
-use Rattle.precedence.specs.ListRead.{startIn, pastIn}
-use Rattle.precedence.specs.Laws.ListRead.{Front, readable-front, start-next, start-room}
+use Rattle.precedence.specs.ListRead.{startIn, pastIn, Front}
+use Rattle.precedence.specs.Laws.ListRead.{readable-front, start-next, start-room}
 use Rattle.closed_subsets.specs.Laws.PlaceTests.{mark-agrees, mark-differs, agree-no, agree-yes, below-next}
 use Rattle.rotations.specs.Sets.{member}
 use borrow.Author.Needs.{needs}

@@ -9,8 +9,8 @@ use Rattle.laws.specs.Choice.{pick}
 use Rattle.laws.specs.FrontStores.{stores-front, stores-values}
 use Rattle.laws.specs.Stores.{Stores, stores-start}
 use Rattle.laws.specs.Values.{vec}
-use Rattle.precedence.specs.ListRead.{startIn, pastIn}
-use Rattle.precedence.specs.Laws.ListRead.{Front, readable-front, start-next, start-room}
+use Rattle.precedence.specs.ListRead.{startIn, pastIn, Front}
+use Rattle.precedence.specs.Laws.ListRead.{readable-front, start-next, start-room}
 use Rattle.matching_set.proofs.past_rotations.write_set.Statement.{statement}
 use Rattle.matching_set.proofs.past_rotations.write_set.Tie as tie
 

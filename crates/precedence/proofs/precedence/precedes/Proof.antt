@@ -15,7 +15,7 @@ use Rattle.rotations.specs.RotationList.{rotationCount}
 use Rattle.rotation_numbering.specs.Numbering.{listRoom}
 use Rattle.instances.specs.Laws.Read.{Read, record-read, read-usable}
 use Rattle.rotation_list.specs.Laws.BookList.{book-numbered}
-use Rattle.precedence.specs.Laws.BookOrder.{book-readable, book-precedes, precedes-itself, numbers-book, numbers-first, numbers-second, numbers-fine}
+use Rattle.precedence.specs.Laws.BookOrder.{book-readable, book-some, book-precedes, precedes-itself, numbers-book, numbers-first, numbers-second, numbers-fine}
 use Rattle.precedence.proofs.precedence.precedes.Statement.{statement}
 use Rattle.precedence.proofs.precedence.precedes.Tie as tie
 
@@ -78,7 +78,8 @@ past-second-requires c κs =
     let e : tie.Else2 = search in
     let n = numbered e in
     let R = read (fine n) in
-    (read-usable R, (rw (counted n) (book-readable R (n .number-all .ensures)), omega arith, omega arith))
+    let N = n .number-all .ensures in
+    (read-usable R, ((rw (counted n) (book-readable R N), omega arith, omega arith), book-some R N (both e .1)))
 
 returns-5 : tie.Need-returns-5
 returns-5 c =
@@ -88,7 +89,7 @@ returns-5 c =
     let t = fine n in
     let b = both (o .before) in
     after-fine (numbers-fine _ _ _ (read t .fine) (b .0) (b .1))
-    (p .past-second .ensures ∙ book-precedes (read t) (n .number-all .ensures) (b .0) (b .1) (o .if3 .left))
+    (book-precedes (read t) (n .number-all .ensures) (b .0) (b .1) (o .if3 .left) (p .past-second .ensures))
     (c .say5 .ensures ∙ ap (λ (v : Verdict). after v (p .past-second .result)) (ap verdictOf (t .enum-told .given .1)))
 
 pub precedes-spec : {M : Type 1} → statement M

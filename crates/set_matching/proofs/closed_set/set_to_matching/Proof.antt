@@ -19,8 +19,10 @@ use Rattle.instances.specs.Laws.Read.{Read, record-read, read-usable}
 use Rattle.rotation_list.specs.Laws.Replies.{verdict-refused}
 use Rattle.rotation_list.specs.Laws.BookList.{book-numbered}
 use Rattle.precedence.specs.Laws.BookOrder.{book-readable}
+use Rattle.stability.specs.Judge.{FromFine}
+use Rattle.stability.specs.Laws.Judged.{from-fine}
 use Rattle.closed_subsets.specs.Laws.SetPlaces.{places-ready}
-use Rattle.set_matching.specs.Laws.BookSets.{set-within, set-closed, set-writable, set-filled}
+use Rattle.set_matching.specs.Laws.BookSets.{set-on, set-closed, set-writable, set-filled}
 use Rattle.rotations.specs.Sets.{badMarks, closedSet, setMatching}
 use Rattle.rotations.specs.Laws.SetVerdict.{set-book, set-marks, set-open, set-short, set-fine, marks-test, marks-good}
 use Rattle.set_matching.proofs.closed_set.set_to_matching.Statement.{statement}
@@ -73,6 +75,10 @@ tables c = loaded c .load .ensures .tables
 
 read : (c : tie.After-enum-told) → Read (start (loaded c) .args .book .now) (made (loaded c))
 read c = record-read (loaded c .load .ensures) (ap verdictOf (c .enum-told .given .1))
+
+-- which is that of a book in which nothing is refused
+fine-made : (c : tie.After-enum-told) → FromFine (made (loaded c))
+fine-made c = from-fine (loaded c .load .ensures) (ap verdictOf (c .enum-told .given .1))
 
 marks : (c : tie.After-bad-marks) → badMarks (book c) (set c) ≡ c .bad-marks .result
 marks c =
@@ -135,7 +141,7 @@ closes-requires c κs =
     let n = numbered (e .before) in
     let R = read (fine n) in
     let N = n .number-all .ensures in
-    (read-usable R, ((set-within R N (b .man-optimal-places .ensures) (p .set-places .ensures) (long e), p .set-places .ensures .long), rw (long e) (book-readable R N)))
+    (fine-made (fine n), (set-on R N (b .man-optimal-places .ensures) (p .set-places .ensures) (long e), rw (long e) (book-readable R N)))
 
 returns-3 : tie.Need-returns-3
 returns-3 c =
@@ -159,7 +165,7 @@ write-matching-requires c κs =
     let p = placed (e .before) in
     let b = best p in
     let n = numbered (tested (e .before)) in
-    set-writable (read (fine n)) (n .number-all .ensures) (b .man-optimal-places .ensures) (p .set-places .ensures) (long (marked b)) (open-not e) (omega (arith, w .if3 .left))
+    set-writable (read (fine n)) (n .number-all .ensures) (b .man-optimal-places .ensures) (p .set-places .ensures) (long (marked b)) (omega (arith, w .if3 .left))
 
 returns-5 : tie.Need-returns-5
 returns-5 c =

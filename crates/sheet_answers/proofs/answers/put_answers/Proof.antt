@@ -2,6 +2,7 @@
 -- line one and the lines of the pairs are put with them. Assumes nothing.
 use native.Mathlib.Omega.{arith}
 use borrow.Author.Needs.{needs}
+use Rattle.sheet_answers.specs.Laws.Digits.{size-short, rotations-short, grade-short, pairs-given}
 use Rattle.sheet_answers.specs.Laws.Over.{top-fits, pairs-fit, sheet-put}
 use Rattle.sheet_answers.proofs.answers.put_answers.Statement.{statement}
 use Rattle.sheet_answers.proofs.answers.put_answers.Tie as tie
@@ -18,15 +19,16 @@ answer-pairs-requires c κs =
 put-top-requires : tie.Need-put-top-requires
 put-top-requires c κs =
     let a : tie.After-answer-pairs = search in
-    top-fits (a .answer-pairs .ensures) _ (start a .pre .1 .1)
+    let A = a .answer-pairs .ensures in
+    let U = start a .pre .0 .0 in
+    (top-fits A _ (start a .pre .1 .1), size-short U, rotations-short U (A .all-rotations), grade-short U A)
 
 put-pairs-requires : tie.Need-put-pairs-requires
 put-pairs-requires c κs =
     let t : tie.After-put-top = search in
     let a : tie.After-answer-pairs = search in
     let A = a .answer-pairs .ensures in
-    let fit = pairs-fit A _ (t .put-top .ensures) (start a .pre .1 .1) in
-    (start a .pre .1 .0, A .letters-long, A .distances-long, fit)
+    (pairs-given (start a .pre .0 .0) A (start a .pre .1 .0), pairs-fit A _ (t .put-top .ensures) (start a .pre .1 .1))
 
 returns : tie.Need-returns
 returns c =

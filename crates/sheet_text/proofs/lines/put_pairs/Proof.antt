@@ -22,7 +22,12 @@ put-pair-requires c κs =
     let w : tie.After-entry-in Inv-loop μ-loop = search in
     let t : tie.In-loop Inv-loop μ-loop = search in
     let l = t .before in
-    rw (w .entry-in .ensures .0) (lines-room (start l .pre .3) (l .loop .inv) (t .loop-test .taken))
+    let pairs = start l .pre .0 in (
+      rw (w .entry-in .ensures .0) (lines-room (start l .pre .1) (l .loop .inv) (t .loop-test .taken)),
+      omega (arith, pairs .men-short),
+      omega (arith, w .entry-in .ensures .1),
+      pairs .distances-short (t .loop-test .taken),
+    )
 
 loop-again : tie.Need-loop-again Inv-loop μ-loop
 loop-again c =
@@ -30,7 +35,7 @@ loop-again c =
     let w : tie.After-entry-in Inv-loop μ-loop = search in
     let t : tie.In-loop Inv-loop μ-loop = search in
     let l = t .before in
-    lines-on (start l .pre .3) (l .loop .inv) (t .loop-test .taken) (rw (w .entry-in .ensures .0) at (p .put-pair .ensures))
+    lines-on (start l .pre .1) (l .loop .inv) (t .loop-test .taken) (rw (w .entry-in .ensures .0) at (p .put-pair .ensures))
 
 pub put-pairs-spec : {M : Type 1} → statement M
 put-pairs-spec =
@@ -38,7 +43,7 @@ put-pairs-spec =
     (tie.spec
     Inv-loop
     μ-loop
-    (λ c. let s : tie.Start Inv-loop μ-loop = search in lines-start (s .pre .3))
+    (λ c. let s : tie.Start Inv-loop μ-loop = search in lines-start (s .pre .1))
     (λ c κs. omega arith)
     (λ c. omega arith)
     (λ c. omega arith)
@@ -48,4 +53,4 @@ put-pairs-spec =
     (λ c. omega arith)
     loop-again
     (λ c. c .before .loop .inv .long)
-    (λ c. lines-end (start (c .before) .pre .3) (c .before .loop .inv) (c .loop-test .left)))
+    (λ c. lines-end (start (c .before) .pre .1) (c .before .loop .inv) (c .loop-test .left)))

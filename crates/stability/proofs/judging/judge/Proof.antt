@@ -3,7 +3,7 @@ use mathlib.Core.Path.{_≡_, sym, _∙_, ap}
 use borrow.Author.Needs.{needs}
 use Rattle.format.specs.Verdict.{fine, verdictOf}
 use Rattle.matchings.specs.Matching.{checkNames}
-use Rattle.stability.specs.Laws.Judging.{judged-book, judged-names, judged-unstable, judged-stable, judge-placeable, judge-searchable, judge-on-lists}
+use Rattle.stability.specs.Laws.Judging.{judged-book, judged-names, judged-unstable, judged-stable, judge-placeable, judge-checkable}
 use Rattle.stability.proofs.judging.judge.Statement.{statement}
 use Rattle.stability.proofs.judging.judge.Tie as tie
 
@@ -41,10 +41,7 @@ check-stable-requires c κs =
     let s : tie.Start = search in
     let p : tie.After-places-of = search in
     let l = listed p in
-    let f = book (begun l) in (
-      judge-searchable _ (s .pre .recorded) f (names l) (p .places-of .ensures),
-      judge-on-lists _ (s .pre .recorded) f (names l) (p .places-of .ensures),
-    )
+    judge-checkable _ (s .pre .recorded) (book (begun l)) (names l) (p .places-of .ensures)
 
 returns-3 : tie.Need-returns-3
 returns-3 c =

@@ -1,0 +1,89 @@
+// The least stable places past a rotation: from the student-best places its first man is pushed on until he is at or
+// after the place to which it moves him. A stable vector in which he is so is past the whole rotation.
+use extremes::man_optimal_places;
+use format::Instance;
+use proposals::push;
+use tables::entry;
+use tables::wide;
+ghost use mathlib.Core.Path.{_≡_};
+ghost use Prim.Native.Nat.{_+_, _*_, _≤_, _<_};
+ghost use lib.ListN.{length};
+ghost use Rattle.laws.specs.Moment.{now₀, vec₁};
+ghost use Rattle.laws.specs.Values.{vec};
+ghost use Rattle.format.specs.Format.{largest};
+ghost use Rattle.format.specs.Record.{Record, lent};
+ghost use Rattle.tables.specs.Lists.{Tables, tables, market, Sound, Sized};
+ghost use Rattle.instances.specs.Usable.{Usable};
+ghost use Rattle.precedence.specs.ListRead.{placeAfter, Front};
+ghost use Rattle.precedence.specs.LeastPast.{PushableTo, LeastFrom, SomePast, LeastPast};
+
+// The place to which the rotation that stands at `at` moves its first man: that of the second pair's woman.
+pub(crate) fn place_after(n: usize, ranks: &[u16], list: &[u16], at: usize) -> usize
+    requires { ⌜ Front n (now list) at × (n * n ≤ length (now ranks)) ⌝ }
+    ensures { λ r. ⌜ r ≡ placeAfter n (now₀ ranks) (now₀ list) at ⌝ }
+{
+    let m = wide(list[at + 1]);
+    let w = wide(list[at + 4]);
+    entry(ranks, n, m, w)
+}
+
+// Pushes proposer s on until he is at `goal` or later: p, with its other side t, becomes the least stable vector in
+// which he is.
+fn push_to<'a>(
+    a: usize,
+    b: usize,
+    plists: &'a [u16],
+    rlists: &'a [u16],
+    ranks: &'a [u16],
+    p: &mut [u16],
+    t: &mut [u16],
+    s: usize,
+    goal: usize,
+)
+    ghost { Tables }
+    requires { λ K. ⌜ tables a b plists rlists ranks ≡ K ⌝ }
+    requires { λ K. ⌜ Sound K ⌝ }
+    requires { λ _. ⌜ Sized a b (now p) (now t) ⌝ }
+    requires { λ K. ⌜ PushableTo (market K) (vec (now p)) (vec (now t)) s goal ⌝ }
+    ensures { λ K _. ⌜ LeastFrom (market K) s goal (vec₁ p) ⌝ }
+{
+    while wide(p[s]) < goal {
+        push(a, b, plists, rlists, ranks, p, t, s);
+    }
+}
+
+// The least stable places past the rotation that stands at `at`.
+pub(crate) fn least_past<'a>(
+    n: usize,
+    mlists: &'a [u16],
+    mranks: &'a [u16],
+    wlists: &'a [u16],
+    wranks: &'a [u16],
+    list: &[u16],
+    at: usize,
+) -> [u16; Instance::LARGEST]
+    ghost { Record }
+    requires { λ R. ⌜ lent n mlists mranks wlists wranks ≡ R ⌝ }
+    requires { λ R. ⌜ Usable R ⌝ }
+    requires { λ _. ⌜ Front n (now list) at ⌝ }
+    requires { λ R. ⌜ SomePast R (now list) at ⌝ }
+    ensures { λ R r. ⌜ LeastPast R (now₀ list) at (vec r) × (length r ≡ largest) ⌝ }
+{
+    let m = wide(list[at + 1]);
+    let goal = place_after(n, mranks, list, at);
+    let places = man_optimal_places(n, mlists, wlists, wranks);
+    let mut men = places.men;
+    let mut women = places.women;
+    push_to(
+        n,
+        n,
+        mlists,
+        wlists,
+        wranks,
+        &mut men[..n],
+        &mut women[..n],
+        m,
+        goal,
+    );
+    men
+}

@@ -1,0 +1,62 @@
+-- Every number of a sheet has at most four digits: n, the number of rotations, the grade and the distances, over the
+-- record and the places that the check of a matching leaves. Assumes nothing.
+use Prim.Native.Nat.{ℕ, _-_, _≤_}
+use mathlib.Core.Path.{_≡_}
+use mathlib.Core.List.{List}
+use native.Mathlib.Omega.{arith}
+use native.Mathlib.Nat.{mul-le-mul}
+use lib.ListN.{length}
+use Rattle.laws.specs.Maximum.{maximum-le}
+use Rattle.laws.specs.Values.{vec}
+use Rattle.format.specs.Format.{largest}
+use Rattle.format.specs.Record.{Record}
+use Rattle.stable_theory.specs.Repairs.Answer.{answerOf}
+use Rattle.stable_theory.specs.Rotations.Numbering.{total}
+use Rattle.stable_theory.specs.Rotations.Canonical.{rotations-complete}
+use Rattle.stable_theory.specs.Rotations.RotationCount.{rotations-most-complete}
+use Rattle.matchings.specs.declared.places.Places.{Places}
+use Rattle.instances.specs.Usable.{Usable, marketIn}
+use Rattle.nearest.specs.Nearest.{costs}
+use Rattle.pair_answers.specs.declared.answers.Summary.{Summary}
+use Rattle.pair_answers.specs.Answered.{PairsAnswered}
+use Rattle.sheet_text.specs.Put.{FourDigits, PairsGiven}
+use Rattle.sheet_answers.specs.Laws.Short.{far-most}
+
+module _ {R : Record} (U : Usable R) where
+  -- n, and the rotations, of which there are at most n × (n − 1) / 2
+  pub size-short : FourDigits (R .n)
+  size-short = omega (arith, U .few)
+
+  pub rotations-short : {rotations : ℕ} → rotations ≡ total (marketIn R) → FourDigits rotations
+  rotations-short e =
+      let M = U .men .proper in
+      let less : R .n - 1 ≤ largest - 1 = omega (arith, U .few) in
+      omega (arith, rotations-most-complete M (rotations-complete M) (U .complete), mul-le-mul (U .few) less)
+
+  module _ {p : Places} {letters distances : List ℕ} {r : Summary} (A : PairsAnswered R p letters distances r) where
+    -- the grade is at most n
+    pub grade-short : FourDigits (r .grade)
+    grade-short =
+        let I = marketIn R in
+        let v = vec (p .men) in
+        omega (
+          arith,
+          U .few,
+          A .largest-cost,
+          maximum-le (R .n) (costs I v) (R .n) (λ s u. omega (arith, far-most I v (answerOf I (λ i. 1) v s))),
+        )
+
+    -- and so are the distances
+    pub pairs-given : {m : List ℕ} → R .n ≤ length m → PairsGiven (R .n) m letters distances
+    pairs-given h =
+        record {
+          women = h;
+          letters-long = A .letters-long;
+          distances-long = A .distances-long;
+          men-short = size-short;
+          distances-short = λ {s} u.
+              let B = A .at u in
+              let I = marketIn R in
+              let v = vec (p .men) in
+              omega (arith, U .few, B .distance, far-most I v (answerOf I (λ i. 1) v s));
+        }
