@@ -3,10 +3,10 @@ use Prim.Native.Nat.{ℕ, _<_}
 use mathlib.Core.Path.{_≡_}
 use mathlib.Core.Bool.{Bool, true, false}
 use Rattle.stable_theory.specs.Stable.Market.{Market}
-use Rattle.stable_theory.specs.Stable.Vector.{Within, Reaches, Settled, Stable, Before, Mirror}
+use Rattle.stable_theory.specs.Stable.Vector.{Reaches, Settled, Stable, Mirror}
 use Rattle.stable_theory.specs.Least.Settle.{least}
 use Rattle.proposals.specs.Best.{Best}
-use Rattle.proposals.specs.Settling.{Settling, Whole}
+use Rattle.proposals.specs.Settling.{Whole}
 
 -- The answer from the start q: p′ is the least settled vector at or after q, t′ has the best rank of those who reach
 -- each receiver, and the answer says whether p′ is stable; then t′ is its other side
@@ -22,9 +22,3 @@ pub record Settles (I : Market) (q p′ t′ : ℕ → ℕ) (answer : Bool) : Ty
 pub record WholeIs (I : Market) (p t : ℕ → ℕ) (answer : Bool) : Type 0 where
   pub yes : answer ≡ true → Whole I p t
   pub no : answer ≡ false → Whole I p t → ⊥
-
--- the proposers below i are settled, and nobody is in a chain
-pub record SettledBelow (I : Market) (q : ℕ → ℕ) (i : ℕ) (p t : ℕ → ℕ) : Type 0 where
-  pub left : Within I p
-  pub after : Before I q p
-  pub settling : Settling I q i p t (I .proposers .size)

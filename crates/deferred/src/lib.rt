@@ -1,6 +1,11 @@
-// Deferred acceptance: the least settled vector of places at or after a start. Tables and vectors are those of crate
+// Deferred acceptance: the stable vector in which every proposer is best off, from the heads of the lists; and the
+// least settled vector at or after any start (`settling`, `turns`, `visits`). Tables and vectors are those of crate
 // `proposals`.
+mod acceptance;
+mod heads;
 mod settling;
+mod turns;
 mod visits;
 
+pub use acceptance::optimal;
 pub use settling::least;

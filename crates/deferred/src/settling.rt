@@ -1,47 +1,23 @@
-// The least settled vector: chains from whoever is rejected, and whether the vector that is left is stable.
-use crate::visits::clear;
+// The least settled vector at or after any start: chains from whoever is rejected, and whether the vector that is left
+// is stable.
+use crate::acceptance::rejected;
+use crate::heads::clear;
+use crate::turns::chain;
+use crate::turns::holds;
 use crate::visits::visit_all;
-use proposals::chain;
-use proposals::holds;
-use tables::entry;
 use tables::list_at;
 use tables::list_len;
 use tables::wide;
 ghost use mathlib.Core.Path.{_≡_};
-ghost use Prim.Native.Nat.{_*_, _≤_, _<_};
-ghost use lib.ListN.{length};
-ghost use Rattle.laws.specs.Moment.{now₀, vec₀, vec₁};
-ghost use Rattle.laws.specs.Table.{cell};
+ghost use Prim.Native.Nat.{_<_};
+ghost use Rattle.laws.specs.Moment.{vec₀, vec₁};
 ghost use Rattle.laws.specs.Values.{vec};
 ghost use Rattle.stable_theory.specs.Stable.Market.{Market, Proper};
 ghost use Rattle.stable_theory.specs.Stable.Vector.{Within};
-ghost use Rattle.tables.specs.Lists.{Tables, tables, market, Sound, Stored, Sized, sideOf, marketOf};
-ghost use Rattle.proposals.specs.Tests.{outranked, HeldIs};
-ghost use Rattle.deferred.specs.Settled.{WholeIs, SettledBelow, Settles};
-
-// Whether proposer i is rejected: whether the best rank of the receiver whom he holds is better than his.
-fn rejected(
-    a: usize,
-    b: usize,
-    plists: &[u16],
-    ranks: &[u16],
-    p: &[u16],
-    t: &[u16],
-    i: usize,
-) -> bool
-    requires { ⌜ Stored a b (now plists) ⌝ }
-    requires { ⌜ b * a ≤ length (now ranks) ⌝ }
-    requires { ⌜ Sized a b (now p) (now t) ⌝ }
-    requires { ⌜ i < a ⌝ }
-    ensures { λ r. ⌜ r ≡ outranked (sideOf a b (now₀ plists)) (cell (now₀ ranks) a) (vec₀ p) (vec₀ t) i ⌝ }
-{
-    let place = wide(p[i]);
-    if list_len(plists, a, b, i) <= place {
-        return false;
-    }
-    let w = list_at(plists, b, i, place);
-    wide(t[w]) < entry(ranks, a, w, i)
-}
+ghost use Rattle.tables.specs.Lists.{Tables, tables, market, Sound, Stored, Sized, marketOf};
+ghost use Rattle.deferred.specs.Below.{SettledBelow};
+ghost use Rattle.deferred.specs.Settled.{WholeIs, Settles};
+ghost use Rattle.deferred.specs.Standing.{HeldIs};
 
 // Each proposer in turn, if rejected, starts a chain.
 fn settle_all(

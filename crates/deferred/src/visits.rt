@@ -1,39 +1,14 @@
-// The best rank of the proposers who reach each receiver.
-use tables::entry;
+// The best rank of the proposers who reach each receiver, from any start.
+use crate::heads::visit;
 use tables::list_at;
 use tables::list_len;
 use tables::wide;
 ghost use mathlib.Core.Path.{_≡_};
-ghost use Prim.Native.Nat.{ℕ, _+_, _*_, _≤_, _<_, min};
+ghost use Prim.Native.Nat.{_+_, _*_, _≤_, _<_, min};
 ghost use lib.ListN.{length};
-ghost use Rattle.laws.specs.Moment.{now₀, now₁, vec₀, vec₁};
-ghost use Rattle.laws.specs.Table.{cell};
-ghost use Rattle.tables.specs.Lists.{lenIn, Stored, Sized};
-ghost use Rattle.proposals.specs.Best.{Lowered};
+ghost use Rattle.laws.specs.Moment.{now₀, now₁};
+ghost use Rattle.tables.specs.Lists.{Stored, Sized};
 ghost use Rattle.deferred.specs.Passes.{Passes};
-
-// Sets each best rank to the end of the receiver's list: nobody has come.
-pub(crate) fn clear(a: usize, b: usize, rlists: &[u16], t: &mut [u16])
-    requires { ⌜ Stored b a (now rlists) × (length (now t) ≡ b) ⌝ }
-    ensures { λ _. ⌜ ((w : ℕ) → w < b → vec₁ t w ≡ lenIn b a (now₀ rlists) w) ⌝ }
-{
-    let mut w = 0;
-    while w < b {
-        t[w] = list_len(rlists, b, a, w) as u16;
-        w += 1;
-    }
-}
-
-// Proposer i visits receiver w.
-fn visit(a: usize, ranks: &[u16], t: &mut [u16], i: usize, w: usize)
-    requires { ⌜ (w * a + i < length (now ranks)) × (w < length (now t)) ⌝ }
-    ensures { λ _. ⌜ Lowered w (cell (now₀ ranks) a w i) (vec₀ t) (vec₁ t) ⌝ }
-{
-    let r = entry(ranks, a, w, i);
-    if r < wide(t[w]) {
-        t[w] = r as u16;
-    }
-}
 
 // How many places of a list of this length are at or before a place.
 fn upto(len: usize, place: usize) -> usize

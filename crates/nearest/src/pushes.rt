@@ -5,7 +5,7 @@
 use crate::answer::Letter;
 use crate::answer::Nearest;
 use format::Instance;
-use proposals::push;
+use pushing::push;
 use tables::list_at;
 use tables::wide;
 ghost use mathlib.Core.Path.{_≡_};
@@ -16,7 +16,7 @@ ghost use Rattle.laws.specs.Sum.{count};
 ghost use Rattle.laws.specs.Values.{vec};
 ghost use Rattle.stable_theory.specs.Repairs.Repair.{moved};
 ghost use Rattle.tables.specs.Lists.{Tables, tables, market, Sound};
-ghost use Rattle.proposals.specs.Push.{Pushable};
+ghost use Rattle.pushing.specs.Push.{Pushable};
 ghost use Rattle.format.specs.Record.{Record, lent};
 ghost use Rattle.nearest.specs.Tried.{Last, Tries, Measured};
 ghost use Rattle.nearest.specs.Nearest.{GivenEnds, ShowsFor};
@@ -63,6 +63,7 @@ fn pushed<'a>(
         ranks,
         &mut proposers[..n],
         &mut receivers[..n],
+        &p[..n],
         s,
     );
     Vectors {

@@ -11,7 +11,7 @@ use Rattle.stable_theory.specs.Stable.Market.{Market, Proper, exchange}
 use Rattle.stable_theory.specs.Stable.Holding.{Same, stable-same, hold-at}
 use Rattle.stable_theory.specs.Stable.Alike.{alike-refl, mirror-alike}
 use Rattle.tables.specs.Lists.{Sized}
-use Rattle.proposals.specs.Push.{Pushable, Pushed}
+use Rattle.pushing.specs.Push.{Pushable, Pushed}
 use Rattle.nearest.specs.Tried.{Tries}
 use Rattle.nearest.specs.Laws.Tried.{pushed-tries, tries-same}
 

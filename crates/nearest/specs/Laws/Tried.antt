@@ -15,7 +15,7 @@ use Rattle.stable_theory.specs.Repairs.RepairLaws.{down-is, down-unique, up-uni
 use Rattle.stable_theory.specs.Repairs.Moves.{weight-same}
 use Rattle.stable_theory.specs.Repairs.Answer.{U, D, F, Answers, nearer-up, nearer-down, neither}
 use Rattle.stable_theory.specs.Repairs.AnswerAlike.{down-alike}
-use Rattle.proposals.specs.Push.{Pushed}
+use Rattle.pushing.specs.Push.{Pushed}
 use Rattle.nearest.specs.Tried.{Tries, Measured}
 
 module _ {I : Market} (M : Proper I) {p : ℕ → ℕ} {s w : ℕ} (P : Stable I p) (h : Holds I p s w) {v t : ℕ → ℕ} {found : Bool} where

@@ -3,7 +3,7 @@
 use Prim.Native.Nat.{_<_}
 use native.Mathlib.Omega.{arith}
 use denote.Ref.{now}
-use Rattle.proposals.specs.Laws.Tests.{held-none, held-some}
+use Rattle.deferred.specs.Laws.Standing.{held-none, held-some}
 use Rattle.tables.specs.Laws.Rows.{stored-index, stored-entry, stored-row}
 use borrow.Author.Needs.{needs}
 use Rattle.tables.specs.Lists.{lenIn}

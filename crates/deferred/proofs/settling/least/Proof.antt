@@ -4,7 +4,8 @@ use mathlib.Core.Path.{_≡_, _∙_}
 use lib.ListN.{length}
 use denote.Ref.{now}
 use Rattle.deferred.specs.Laws.Pass.{pass-start, pass-end}
-use Rattle.deferred.specs.Laws.AnyStart.{below-start, below-end}
+use Rattle.deferred.specs.Laws.AnyStart.{below-end}
+use Rattle.deferred.specs.Laws.Below.{below-start}
 use borrow.Author.Needs.{needs}
 use Rattle.deferred.proofs.settling.least.Statement.{statement}
 use Rattle.deferred.proofs.settling.least.Tie as tie

@@ -8,9 +8,9 @@ use denote.Ref.{now}
 use Rattle.laws.specs.Table.{cell}
 use Rattle.laws.specs.Values.{vec}
 use Rattle.tables.specs.Lists.{marketOf, Sized}
-use Rattle.proposals.specs.Laws.Tests.{outranked-is, RejectedIs}
-use Rattle.deferred.specs.Settled.{SettledBelow}
-use Rattle.deferred.specs.Laws.AnyStart.{below-skip, below-ready, below-chain}
+use Rattle.deferred.specs.Laws.Rejected.{outranked-is, RejectedIs}
+use Rattle.deferred.specs.Below.{SettledBelow}
+use Rattle.deferred.specs.Laws.Below.{below-skip, below-ready, below-chain}
 use Rattle.deferred.proofs.settling.settle_all.Statement.{statement}
 use Rattle.deferred.proofs.settling.settle_all.Tie as tie
 
@@ -43,10 +43,11 @@ rejected-requires c κs =
 
 chain-requires : tie.Need-chain-requires Inv-loop μ-loop
 chain-requires c κs =
+    let d : tie.In-loop Inv-loop μ-loop = search in
     let at-loop : tie.At-loop Inv-loop μ-loop = search in
     let s = start search in
     let m = at-loop .loop in
-    (s .pre .0, (m .inv .1, below-ready (s .pre .0 .proper) (m .inv .2) (rw (c .before .before .if1 .taken) at (answer search))))
+    (s .pre .0, ((m .inv .1, d .loop-test .taken), below-ready (s .pre .0 .proper) (m .inv .2) (rw (c .before .before .if1 .taken) at (answer search))))
 
 add-i : tie.Need-add-i Inv-loop μ-loop
 add-i c = omega arith

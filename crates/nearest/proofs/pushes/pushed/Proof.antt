@@ -1,5 +1,6 @@
 -- `pushed` meets its contract: a proposer at his end is not tried, and otherwise the kernel pushes on the fronts of
 -- the two copies. Assumes nothing.
+use mathlib.Core.Path.{refl}
 use native.Mathlib.Omega.{arith}
 use lib.ListN.{length-take}
 use borrow.Author.Needs.{needs}
@@ -15,7 +16,7 @@ push-requires : tie.Need-push-requires
 push-requires c κs =
     let s : tie.Start = search in
     let T = s .pre .0 .0 in
-    (T, (front-sized (T .proper) _ _ (omega (arith, s .good)), front-pushable (T .proper) _ _ (omega (arith, s .good)) (s .pre .1 .0)))
+    (T, ((front-sized (T .proper) _ _ (omega (arith, s .good)), refl), front-pushable (T .proper) _ _ (omega (arith, s .good)) (s .pre .1 .0)))
 
 returns-2 : tie.Need-returns-2
 returns-2 c =
@@ -30,6 +31,8 @@ pushed-spec =
     (λ c. search needs)
     (λ c. search needs)
     returns
+    (λ c. search needs)
+    (λ c. let s : tie.Start = search in simp length-take (omega (arith, s .good)))
     (λ c. search needs)
     (λ c. let s : tie.Start = search in simp length-take (omega (arith, s .good)))
     (λ c. search needs)
