@@ -1,6 +1,6 @@
-// Deferred acceptance: the least settled vector of places at or after a start. Tables and vectors are those of crate
-// `proposals`.
-mod settling;
-mod visits;
+// Deferred acceptance: the stable vector in which every proposer is best off, from the heads of the lists. Tables and
+// vectors are those of crate `proposals`.
+mod acceptance;
+mod heads;
 
-pub use settling::least;
+pub use acceptance::optimal;

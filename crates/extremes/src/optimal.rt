@@ -79,7 +79,7 @@ pub fn woman_optimal_places<'a>(
     Places { men, women }
 }
 
-// The stable matching in which every proposer is best off: the least settled vector from the heads of the lists.
+// The stable matching in which every proposer is best off.
 fn proposer_optimal<'a>(n: usize, plists: &'a [u16], rlists: &'a [u16], ranks: &'a [u16]) -> Sides
     ghost { Tables }
     requires { λ K. ⌜ tables n n plists rlists ranks ≡ K ⌝ }
@@ -88,7 +88,7 @@ fn proposer_optimal<'a>(n: usize, plists: &'a [u16], rlists: &'a [u16], ranks: &
 {
     let mut proposers = [0u16; Instance::LARGEST];
     let mut receivers = [0u16; Instance::LARGEST];
-    deferred::least(
+    deferred::optimal(
         n,
         n,
         plists,

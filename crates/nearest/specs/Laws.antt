@@ -1,6 +1,5 @@
 -- What the proofs cite: the two pushes, the nearer of them, the grade, and the book. Assumes nothing.
 pub mod Tried
-pub mod Standin
 pub mod Pushing
 pub mod Nearest
 pub mod Grade

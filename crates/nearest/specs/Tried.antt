@@ -3,10 +3,8 @@
 use Prim.Native.Nat.{ℕ, _≤_, _<_}
 use mathlib.Core.Path.{_≡_}
 use Rattle.stable_theory.specs.Stable.Market.{Market}
-use Rattle.stable_theory.specs.Stable.Vector.{Mirror, Stable}
-use Rattle.stable_theory.specs.Repairs.Repair.{IsDown, weight, moved}
-use Rattle.stable_theory.specs.Least.Settle.{least, onward}
-use Rattle.laws.specs.Sum.{count}
+use Rattle.stable_theory.specs.Stable.Vector.{Mirror}
+use Rattle.stable_theory.specs.Repairs.Repair.{IsDown, weight}
 
 -- What a push of proposer s from p that gives up at `stop` says: below stop, `far` is the distance of the repair down,
 -- v is that repair and t its other side; otherwise no repair down is nearer than stop
@@ -22,12 +20,3 @@ pub record Tries (I : Market) (p : ℕ → ℕ) (s stop : ℕ) (v t : ℕ → �
 pub record Distant (I : Market) (c p : ℕ → ℕ) (Is : (ℕ → ℕ) → Type 0) (stop far : ℕ) : Type 0 where
   pub near : far < stop → (v : ℕ → ℕ) × Is v × (far ≡ weight I c p v)
   pub further : stop ≤ far → (d : ℕ → ℕ) → Is d → stop ≤ weight I c p d
-
--- STAND-IN
-pub record PushCounted (I : Market) (p : ℕ → ℕ) (s stop : ℕ) (p′ t′ : ℕ → ℕ) (r : ℕ) : Type 0 where
-  pub places : r < stop → (i : ℕ) → i < I .proposers .size → p′ i ≡ least I (onward p s) i
-  pub stable : r < stop → Stable I p′
-  pub mirror : r < stop → Mirror I p′ t′
-  pub near : r < stop → r ≡ count (I .proposers .size) (moved p (least I (onward p s)))
-  pub far : stop ≤ r → Stable I (least I (onward p s)) → stop ≤ count (I .proposers .size) (moved p (least I (onward p s)))
-  pub most : r ≤ stop

@@ -5,20 +5,17 @@
 use crate::answer::Letter;
 use crate::answer::Nearest;
 use format::Instance;
-use proposals::push;
+use pushing::push_count;
 use tables::list_at;
 use tables::wide;
 ghost use mathlib.Core.Path.{_≡_};
 ghost use Prim.Native.Nat.{_≤_, _<_};
 ghost use lib.ListN.{length};
-ghost use Rattle.laws.specs.Moment.{vec₀, vec₁};
-ghost use Rattle.laws.specs.Sum.{count};
 ghost use Rattle.laws.specs.Values.{vec};
-ghost use Rattle.stable_theory.specs.Repairs.Repair.{moved};
-ghost use Rattle.tables.specs.Lists.{Tables, tables, market, Sound, Sized};
-ghost use Rattle.proposals.specs.Push.{Pushable};
+ghost use Rattle.tables.specs.Lists.{Tables, tables, market, Sound};
+ghost use Rattle.pushing.specs.Push.{Pushable};
 ghost use Rattle.format.specs.Record.{Record, lent};
-ghost use Rattle.nearest.specs.Tried.{Tries, PushCounted};
+ghost use Rattle.nearest.specs.Tried.{Tries};
 ghost use Rattle.nearest.specs.Nearest.{Given, ShowsFor};
 
 // What a push leaves: how far the repair is that it found, and the two vectors.
@@ -65,51 +62,6 @@ pub fn pushed<'a>(
         proposers,
         receivers,
     }
-}
-
-// STAND-IN
-fn push_count<'a>(
-    a: usize,
-    b: usize,
-    plists: &'a [u16],
-    rlists: &'a [u16],
-    ranks: &'a [u16],
-    p: &mut [u16],
-    t: &mut [u16],
-    was: &[u16],
-    s: usize,
-    stop: usize,
-) -> usize
-    ghost { Tables }
-    requires { λ K. ⌜ tables a b plists rlists ranks ≡ K ⌝ }
-    requires { λ K. ⌜ Sound K ⌝ }
-    requires { λ _. ⌜ Sized a b (now p) (now t) ⌝ }
-    requires { λ K. ⌜ Pushable (market K) (vec (now p)) (vec (now t)) s ⌝ }
-    requires { λ _. ⌜ now was ≡ now p ⌝ }
-    ensures { λ K r. ⌜ PushCounted (market K) (vec₀ p) s stop (vec₁ p) (vec₁ t) r ⌝ }
-{
-    let found = push(a, b, plists, rlists, ranks, p, t, s);
-    if !found {
-        return stop;
-    }
-    let far = count_moved(a, was, p);
-    if far < stop { far } else { stop }
-}
-
-// How many of the first n entries differ.
-fn count_moved(n: usize, old: &[u16], new: &[u16]) -> usize
-    requires { ⌜ (n ≤ length (now old)) × (n ≤ length (now new)) ⌝ }
-    ensures { λ r. ⌜ (r ≡ count n (moved (vec₀ old) (vec₀ new))) × (r ≤ n) ⌝ }
-{
-    let mut found = 0;
-    let mut i = 0;
-    while i < n {
-        if new[i] != old[i] {
-            found += 1;
-        }
-        i += 1;
-    }
-    found
 }
 
 // The nearest repair of the pair of man s: up by a push of his woman on the other side, down by a push of him, which

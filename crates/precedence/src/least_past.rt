@@ -2,13 +2,13 @@
 // after the place to which it moves him. A stable vector in which he is so is past the whole rotation.
 use extremes::man_optimal_places;
 use format::Instance;
-use proposals::push;
+use pushing::push;
 use tables::entry;
 use tables::wide;
 ghost use mathlib.Core.Path.{_≡_};
 ghost use Prim.Native.Nat.{_+_, _*_, _≤_, _<_};
 ghost use lib.ListN.{length};
-ghost use Rattle.laws.specs.Moment.{now₀, vec₁};
+ghost use Rattle.laws.specs.Moment.{now₀, now₁, vec₁};
 ghost use Rattle.laws.specs.Values.{vec};
 ghost use Rattle.format.specs.Format.{largest};
 ghost use Rattle.format.specs.Record.{Record, lent};
@@ -27,8 +27,20 @@ pub(crate) fn place_after(n: usize, ranks: &[u16], list: &[u16], at: usize) -> u
     entry(ranks, n, m, w)
 }
 
+// Copies places.
+fn copy_places(places: &[u16], out: &mut [u16])
+    requires { ⌜ length (now out) ≡ length (now places) ⌝ }
+    ensures { λ _. ⌜ now₁ out ≡ now₀ places ⌝ }
+{
+    let mut i = 0;
+    while i < places.len() {
+        out[i] = places[i];
+        i += 1;
+    }
+}
+
 // Pushes proposer s on until he is at `goal` or later: p, with its other side t, becomes the least stable vector in
-// which he is.
+// which he is. `was` has p as it is before each push.
 fn push_to<'a>(
     a: usize,
     b: usize,
@@ -37,18 +49,20 @@ fn push_to<'a>(
     ranks: &'a [u16],
     p: &mut [u16],
     t: &mut [u16],
+    was: &mut [u16],
     s: usize,
     goal: usize,
 )
     ghost { Tables }
     requires { λ K. ⌜ tables a b plists rlists ranks ≡ K ⌝ }
     requires { λ K. ⌜ Sound K ⌝ }
-    requires { λ _. ⌜ Sized a b (now p) (now t) ⌝ }
+    requires { λ _. ⌜ Sized a b (now p) (now t) × (length (now was) ≡ a) ⌝ }
     requires { λ K. ⌜ PushableTo (market K) (vec (now p)) (vec (now t)) s goal ⌝ }
     ensures { λ K _. ⌜ LeastFrom (market K) s goal (vec₁ p) ⌝ }
 {
     while wide(p[s]) < goal {
-        push(a, b, plists, rlists, ranks, p, t, s);
+        copy_places(p, was);
+        push(a, b, plists, rlists, ranks, p, t, was, s);
     }
 }
 
@@ -74,6 +88,7 @@ pub(crate) fn least_past<'a>(
     let places = man_optimal_places(n, mlists, wlists, wranks);
     let mut men = places.men;
     let mut women = places.women;
+    let mut was = [0u16; Instance::LARGEST];
     push_to(
         n,
         n,
@@ -82,6 +97,7 @@ pub(crate) fn least_past<'a>(
         wranks,
         &mut men[..n],
         &mut women[..n],
+        &mut was[..n],
         m,
         goal,
     );

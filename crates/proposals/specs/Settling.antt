@@ -17,3 +17,11 @@ pub record Settling (I : Market) (q : ℕ → ℕ) (k : ℕ) (p t : ℕ → ℕ)
 -- At the end: every receiver to whom somebody has come is held by the proposer at her best rank
 pub record Whole (I : Market) (p t : ℕ → ℕ) : Type 0 where
   pub held : {w : ℕ} → w < I .receivers .size → t w < I .receivers .len w → Holds I p (I .receivers .at w (t w)) w
+
+-- While c is to go on: every receiver but g to whom somebody has come is held by the proposer at her best rank, and he
+-- is not c. Where g is no receiver, that is all receivers
+pub record Holders (I : Market) (g : ℕ) (p t : ℕ → ℕ) (c : ℕ) : Type 0 where
+  pub held :
+      {w : ℕ} → w < I .receivers .size → (w ≡ g → ⊥) → t w < I .receivers .len w → Holds I p (I .receivers .at w (t w)) w
+  pub apart :
+      {w : ℕ} → w < I .receivers .size → (w ≡ g → ⊥) → t w < I .receivers .len w → I .receivers .at w (t w) ≡ c → ⊥

@@ -1,7 +1,6 @@
 -- One turn of deferred acceptance: proposer c goes on by one place. A chain is a row of turns, each of the proposer
--- whom the turn before leaves to go on. A number x says who that is: x itself below the number a of proposers, nobody
--- at a, and nobody at a + 1 too, where c came to the end of his list or to a receiver to whom nobody had come before.
--- Assumes nothing.
+-- whom the turn before leaves to go on. A number x says who that is: below the number of proposers x himself, and at
+-- that number nobody. Assumes nothing.
 use Prim.Native.Nat.{ℕ, suc, _≤_, _<_}
 use mathlib.Core.Path.{_≡_}
 use Rattle.stable_theory.specs.Stable.Market.{Market, exchange}
@@ -26,11 +25,11 @@ pub record Came (I : Market) (p t : ℕ → ℕ) (c w : ℕ) (p′ t′ : ℕ �
 -- best does not hold her, and nobody goes on; or he does, and goes on
 pub data Turn (I : Market) (p t : ℕ → ℕ) (c : ℕ) (p′ t′ : ℕ → ℕ) (x : ℕ) : Type 0 where
   off :
-      Onward I p c p′ → I .proposers .len c ≤ p′ c → ((v : ℕ) → t′ v ≡ t v) → x ≡ suc (I .proposers .size) →
+      Onward I p c p′ → I .proposers .len c ≤ p′ c → ((v : ℕ) → t′ v ≡ t v) → x ≡ I .proposers .size →
       Turn I p t c p′ t′ x
   worse : {w : ℕ} → Came I p t c w p′ t′ → t w ≤ I .receivers .place w c → x ≡ c → Turn I p t c p′ t′ x
   free :
-      {w : ℕ} → Came I p t c w p′ t′ → I .receivers .len w ≤ t w → x ≡ suc (I .proposers .size) →
+      {w : ℕ} → Came I p t c w p′ t′ → I .receivers .len w ≤ t w → x ≡ I .proposers .size →
       Turn I p t c p′ t′ x
   last :
       {w : ℕ} → Came I p t c w p′ t′ → I .receivers .place w c < t w → t w < I .receivers .len w →
@@ -51,8 +50,3 @@ pub record Ready (I : Market) (p t : ℕ → ℕ) (c : ℕ) : Type 0 where
   pub left : Within I p
   pub right : Within (exchange I) t
   pub placed : c < I .proposers .size → p c < I .proposers .len c
-
--- A whole chain from c: a row of turns after which no proposer is to go on
-pub record Ran (I : Market) (p t : ℕ → ℕ) (c : ℕ) (p′ t′ : ℕ → ℕ) (x : ℕ) : Type 0 where
-  pub turns : Turns I p t c p′ t′ x
-  pub ended : I .proposers .size ≤ x

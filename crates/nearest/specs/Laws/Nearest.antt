@@ -21,7 +21,7 @@ use Rattle.tables.specs.Lists.{atIn}
 use Rattle.tables.specs.Laws.Rows.{stored-index}
 use Rattle.format.specs.Record.{Record}
 use Rattle.instances.specs.Usable.{marketIn}
-use Rattle.proposals.specs.Push.{Pushable}
+use Rattle.pushing.specs.Push.{Pushable}
 use Rattle.nearest.specs.declared.answer.Letter.the-variants.{Up, Down, Fixed}
 use Rattle.nearest.specs.declared.answer.Nearest.{Nearest}
 use Rattle.nearest.specs.Tried.{Tries, Distant}

@@ -1,5 +1,5 @@
 -- A push on the front of two vectors that have room for more, as the code lends them. Assumes nothing.
-use Prim.Native.Nat.{ℕ, _≤_}
+use Prim.Native.Nat.{ℕ, _≤_, _<_}
 use mathlib.Core.Path.{_≡_, sym, _∙_}
 use mathlib.Core.List.{List, _++_}
 use native.Mathlib.Omega.{arith}
@@ -10,8 +10,8 @@ use Rattle.stable_theory.specs.Stable.Market.{Market, Proper, exchange}
 use Rattle.stable_theory.specs.Stable.Holding.{Same, stable-same, hold-at}
 use Rattle.stable_theory.specs.Stable.Alike.{alike-refl, mirror-alike}
 use Rattle.tables.specs.Lists.{Sized}
-use Rattle.proposals.specs.Push.{Pushable}
-use Rattle.nearest.specs.Tried.{Tries, PushCounted}
+use Rattle.pushing.specs.Push.{Pushable, PushCounted, PushedTo}
+use Rattle.nearest.specs.Tried.{Tries}
 use Rattle.nearest.specs.Laws.Tried.{counted-tries, tries-same}
 
 -- the front of a list has its entries
@@ -42,9 +42,10 @@ module _ {I : Market} (M : Proper I) (p t : List ℕ) (long : (I .proposers .siz
     pub front-tries :
         (x y : List ℕ) {stop far : ℕ} →
         length x ≡ length (take (I .proposers .size) p) → length y ≡ length (take (I .receivers .size) t) →
-        PushCounted I (vec (take (I .proposers .size) p)) s stop (vec x) (vec y) far →
+        PushCounted I (vec (take (I .proposers .size) p)) s stop far →
+        (far < stop → PushedTo I (vec (take (I .proposers .size) p)) s (vec x) (vec y)) →
         Tries I (vec p) s stop (vec (x ++ drop (I .proposers .size) p)) (vec (y ++ drop (I .receivers .size) t)) far
-    front-tries x y e f R =
+    front-tries x y e f R T =
         let h = hold-at M (vec (take (I .proposers .size) p)) (P .proposer) (front-pushable .placed) in
         tries-same (P .proposer) (λ i u. sym (front-same I p i u)) (back-same I x _ (e ∙ front-sized .places))
-        (back-same (exchange I) y _ (f ∙ front-sized .bests)) (counted-tries M (front-pushable .stable) h R)
+        (back-same (exchange I) y _ (f ∙ front-sized .bests)) (counted-tries M (front-pushable .stable) h R T)

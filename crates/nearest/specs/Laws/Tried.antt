@@ -7,7 +7,7 @@ use Rattle.laws.specs.Choice.{split}
 use Rattle.laws.specs.SumLaws.{count-most}
 use Rattle.stable_theory.specs.Stable.Market.{Market, Proper, exchange, exchanged}
 use Rattle.stable_theory.specs.Stable.Vector.{Holds, Stable, Mirror}
-use Rattle.stable_theory.specs.Stable.Holding.{Same, stable-same}
+use Rattle.stable_theory.specs.Stable.Holding.{Same}
 use Rattle.stable_theory.specs.Stable.Mirror.{mirror-of, mirror-back, mirror-order, stable-across}
 use Rattle.stable_theory.specs.Stable.Alike.{alike-refl, mirror-alike}
 use Rattle.stable_theory.specs.Repairs.Repair.{IsDown, IsUp, down, moved, weight, distance}
@@ -16,7 +16,8 @@ use Rattle.stable_theory.specs.Repairs.Moves.{weight-same, distance-weight}
 use Rattle.stable_theory.specs.Repairs.BothSides.{distance-both}
 use Rattle.stable_theory.specs.Repairs.Answer.{U, D, F, Answers, nearer-up, nearer-down, neither}
 use Rattle.stable_theory.specs.Repairs.AnswerAlike.{down-alike, weight-alike}
-use Rattle.nearest.specs.Tried.{Tries, Distant, PushCounted}
+use Rattle.pushing.specs.Push.{PushCounted, PushedTo}
+use Rattle.nearest.specs.Tried.{Tries, Distant}
 
 -- no more than all are moved
 pub weight-most : (I : Market) (p v : ℕ → ℕ) → weight I (λ i. 1) p v ≤ I .proposers .size
@@ -26,17 +27,17 @@ weight-most I p v = count-most (I .proposers .size) (moved p v)
 -- p is stable and s holds w
 module _ {I : Market} (M : Proper I) {p : ℕ → ℕ} {s w : ℕ} (P : Stable I p) (h : Holds I p s w) {v t : ℕ → ℕ} {stop far : ℕ} where
   -- the answer of the kernel says so: where there is a repair down, it is the least settled vector after s goes on
-  pub counted-tries : PushCounted I p s stop v t far → Tries I p s stop v t far
+  pub counted-tries : PushCounted I p s stop far → (far < stop → PushedTo I p s v t) → Tries I p s stop v t far
   unfolding down weight
-  counted-tries R =
-      let same : far < stop → Same I (down I p s) v = λ z i u. sym (R .places z i u) in
+  counted-tries R T =
+      let same : far < stop → Same I (down I p s) v = λ z i u. sym (T z .least i u) in
       record {
-        repair = λ z. down-alike (alike-refl I) (λ i u. refl) (h .pair .proposer) (same z) (down-is M P h (stable-same v (down I p s) (R .places z) (R .stable z)));
-        mirror = λ z. R .mirror z;
-        distance = λ z. R .near z ∙ weight-same I (λ i. 1) p (down I p s) v (same z);
+        repair = λ z. down-alike (alike-refl I) (λ i u. refl) (h .pair .proposer) (same z) (down-is M P h (R .near z .0));
+        mirror = λ z. T z .mirror;
+        distance = λ z. R .near z .1 ∙ weight-same I (λ i. 1) p (down I p s) v (same z);
         further = λ z d X.
-            let T = down-exists M P h (X .parts) (X .after) in
-            omega (arith, R .far z T, weight-same I (λ i. 1) p (down I p s) d (down-unique (down-is M P h T) X));
+            let E = down-exists M P h (X .parts) (X .after) in
+            omega (arith, R .far z E, weight-same I (λ i. 1) p (down I p s) d (down-unique (down-is M P h E) X));
         most = R .most;
       }
 

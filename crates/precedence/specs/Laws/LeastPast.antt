@@ -21,7 +21,7 @@ use Rattle.stable_theory.specs.Least.Optimal.{proposer-optimal, proposer-optima
 use Rattle.tables.specs.Lists.{marketOf, tablesOf, Sound, Sized}
 use Rattle.matchings.specs.declared.places.Places.{Places}
 use Rattle.extremes.specs.Places.{PlacesIn}
-use Rattle.proposals.specs.Push.{Pushable, Pushed}
+use Rattle.pushing.specs.Push.{Pushable, Pushed}
 use Rattle.precedence.specs.ListRead.{startIn, pastIn}
 use Rattle.precedence.specs.LeastPast.{SomeFrom, LeastFrom, PushableTo, LeastPast, PastLeast}
 

@@ -15,7 +15,7 @@ use Rattle.proposals.specs.Settling.{Settling}
 
 module _ {I : Market} (M : Proper I) {q : ℕ → ℕ} {k : ℕ} {p t : ℕ → ℕ} {c : ℕ} (S : Settling I q k p t c) {p′ : ℕ → ℕ} where
   -- a step on of c stays at or before every settled vector at or after the start
-  ahead-on : Onward I p c p′ → (r : ℕ → ℕ) → Settled I r → Before I q r → Before I p′ r
+  pub ahead-on : Onward I p c p′ → (r : ℕ → ℕ) → Settled I r → Before I q r → Before I p′ r
   ahead-on O r R le l u =
       same l c (λ e. omega (arith, O .up, S .next r R le (O .proposer), ap r e, ap p′ e))
       (λ n. omega (arith, O .others l n, S .ahead r R le l u))

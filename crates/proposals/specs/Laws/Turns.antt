@@ -122,11 +122,9 @@ ready-turns R (turn T Q) = ready-turns (ready-turn R T) Q
 abbrev pub left : Market → (ℕ → ℕ) → ℕ
 left I p = sum (I .proposers .size) (λ i. I .proposers .len i - p i)
 
--- a turn leaves fewer
-pub turn-less :
-    {I : Market} {p t : ℕ → ℕ} {c : ℕ} {p′ t′ : ℕ → ℕ} {x : ℕ} → Turn I p t c p′ t′ x → left I p′ < left I p
-turn-less {I} {p} {c = c} {p′} T =
-    let O = turn-onward T in
+-- a step on leaves fewer
+pub onward-less : {I : Market} {p : ℕ → ℕ} {c : ℕ} {p′ : ℕ → ℕ} → Onward I p c p′ → left I p′ < left I p
+onward-less {I} {p} {c} {p′} O =
     let f : ℕ → ℕ = λ i. I .proposers .len i - p′ i in
     let g : ℕ → ℕ = λ i. I .proposers .len i - p i in
     split (sum (I .proposers .size) g) (sum (I .proposers .size) f)

@@ -38,15 +38,6 @@ module _ {I : Market} (M : Proper I) {q p t : ℕ → ℕ} {c : ℕ} (S : Settli
             rw (ap (I .receivers .at w) (h .is) ∙ at-rank M z) at (W .held (z .receiver) (omega (arith, h .is, z .listed)));
       }
 
-  -- and where the vector is stable, every receiver is held so
-  pub stable-whole : Stable I p → Whole I p t
-  stable-whole P =
-      record {
-        held = λ {w} b l.
-            let h = P .held (S .best .come b l) in
-            rw (sym (ap (I .receivers .at w) (holder-best (h .1)) ∙ at-rank M (h .1 .pair))) at (h .1);
-      }
-
 module _ {I : Market} (M : Proper I) {p t : ℕ → ℕ} where
   -- by the other side of a vector every receiver is held so
   pub mirror-whole : Mirror I p t → Whole I p t

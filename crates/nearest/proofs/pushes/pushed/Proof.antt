@@ -11,7 +11,7 @@ push-count-requires : tie.Need-push-count-requires
 push-count-requires c κs =
     let s : tie.Start = search in
     let T = s .pre .0 .0 in
-    (T, (front-sized (T .proper) _ _ (omega (arith, s .good)), (front-pushable (T .proper) _ _ (omega (arith, s .good)) (s .pre .1), refl)))
+    (T, ((front-sized (T .proper) _ _ (omega (arith, s .good)), refl), front-pushable (T .proper) _ _ (omega (arith, s .good)) (s .pre .1)))
 
 returns : tie.Need-returns
 returns c =

@@ -1,14 +1,15 @@
--- `least_past` meets its contract: the first man is pushed on the fronts of the two arrays. Assumes nothing.
+-- `least_past` meets its contract: the first man is pushed on the fronts of the arrays. Assumes nothing.
 use mathlib.Core.Path.{sym}
 use lib.ListN.{take}
 use borrow.Author.Needs.{needs}
+use Rattle.laws.specs.Padded.{zeros-front}
 use Rattle.tables.specs.Lists.{Sized}
 use Rattle.precedence.specs.Laws.LeastPast.{best-sized, best-pushable, least-back}
 use Rattle.precedence.proofs.least_past.least_past.Statement.{statement}
 use Rattle.precedence.proofs.least_past.least_past.Tie as tie
 
 -- from the call of the pushes to what they start from
-abbrev best : tie.After-women2 → tie.After-man-optimal-places
+abbrev best : tie.After-was → tie.After-man-optimal-places
 best c = search
 
 abbrev man : tie.After-man-optimal-places → tie.After-wide
@@ -17,7 +18,7 @@ man c = search
 abbrev start : tie.After-wide → tie.Start
 start c = search
 
-abbrev called : tie.After-push-to → tie.After-women2
+abbrev called : tie.After-push-to → tie.After-was
 called c = search
 
 -- the lent fronts have a place for each person
@@ -31,7 +32,7 @@ push-to-requires c κs =
     let s = start (man b) in
     let U = s .pre .0 in
     let S = s .pre .1 .1 in
-    (U .men, (sized b, best-pushable (U .men) (U .few) (b .man-optimal-places .ensures) (man b .wide .ensures .0) (g .place-after .ensures) (s .pre .1 .0 .man) S))
+    (U .men, ((sized b, zeros-front (U .few)), best-pushable (U .men) (U .few) (b .man-optimal-places .ensures) (man b .wide .ensures .0) (g .place-after .ensures) (s .pre .1 .0 .man) S))
 
 returns : tie.Need-returns
 returns c =
@@ -57,5 +58,7 @@ least-past-spec =
     (λ c. let b : tie.After-man-optimal-places = search in sym (sized b .places))
     (λ c. search needs)
     (λ c. let b : tie.After-man-optimal-places = search in sym (sized b .bests))
+    (λ c. search needs)
+    (λ c. let b : tie.After-man-optimal-places = search in sym (zeros-front (start (man b) .pre .0 .few)))
     push-to-requires
     returns)
