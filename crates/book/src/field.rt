@@ -47,7 +47,7 @@ pub(crate) fn offset_of(b: &[u8], k: usize) -> usize
 }
 
 // The length of list k, from the directory.
-pub fn length_of(b: &[u8], k: usize) -> usize
+pub(crate) fn length_of(b: &[u8], k: usize) -> usize
     requires { ⌜ 5 + 4 * k < length (now b) ⌝ }
     ensures { λ r. ⌜ (r ≡ listLength (now₀ b) k) × (r < 65536) ⌝ }
 {
@@ -55,7 +55,7 @@ pub fn length_of(b: &[u8], k: usize) -> usize
 }
 
 // List k, from its directory offset.
-pub fn list_of(b: &[u8], k: usize) -> &[u8]
+pub(crate) fn list_of(b: &[u8], k: usize) -> &[u8]
     requires { ⌜ Listed (now b) k ⌝ }
     ensures { λ r. ⌜ now r ≡ stretch (now₀ b) k ⌝ }
 {

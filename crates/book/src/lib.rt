@@ -1,10 +1,11 @@
 // Books: the check (rules 1 to 7), one person's list, and what the crates above read of a book, a row of entries and a
 // set of marks. Contracts cite the definitions of crate `format`; specs/Laws/ has the laws of the loops.
 //
-// `check`, `book_end`, `people_in`, `first_faulty` and the functions on one person take any bytes. Those that read or
-// write an entry or a mark, cut a part out or check one list serve the crates above, and have a `requires`.
+// `check`, `framed`, `book_end`, `people_in`, `first_faulty` and the functions on one person take any bytes. Those that
+// read or write an entry or a mark, cut a part out or check one list serve the crates above, and have a `requires`.
 mod directory;
 mod field;
+mod frame;
 mod lists;
 mod person;
 mod refusal;
@@ -18,10 +19,10 @@ pub use directory::woman_place;
 pub use field::book_end;
 pub use field::bytes_at;
 pub use field::check_size;
-pub use field::length_of;
-pub use field::list_of;
 pub use field::size_of;
 pub use field::wide;
+pub use frame::framed;
+pub use frame::lists_from;
 pub use lists::check_list;
 pub use lists::first_faulty;
 pub use person::check_man;

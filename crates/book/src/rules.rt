@@ -15,10 +15,22 @@ ghost use Rattle.format.specs.Verdict.{verdictOf};
 ghost use Rattle.format.specs.Format.{offset, listLength, entry};
 ghost use Rattle.format.specs.Lists.{checkLists};
 ghost use Rattle.format.specs.Check.{firstWrongPair, checkBook, RightSize, RightPairs};
+ghost use Rattle.format.specs.Frame.{FrameChecked};
 
 // Says whether a book is well formed, or the first rule that it breaks and where.
 pub fn check(book: &[u8]) -> Checked
     ensures { λ r. ⌜ verdictOf r ≡ checkBook (now₀ book) ⌝ }
+{
+    let framed = check_frame(book);
+    let Checked::Fine = framed else {
+        return framed;
+    };
+    check_lists(book, people_in(book))
+}
+
+// Rules 1 to 5: the header, the size and the directory.
+pub(crate) fn check_frame(book: &[u8]) -> Checked
+    ensures { λ r. ⌜ FrameChecked (now₀ book) (verdictOf r) ⌝ }
 {
     let len = book.len();
     if len < 2 {
@@ -42,7 +54,7 @@ pub fn check(book: &[u8]) -> Checked
     if pair < 2 * n {
         return refuse(5, 2 + 4 * pair);
     }
-    check_lists(book, n)
+    Checked::Fine
 }
 
 // The first directory pair that is not as it has to be, or 2 * n: a list starts where the one before ended and has n

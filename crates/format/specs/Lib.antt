@@ -6,6 +6,7 @@ pub mod Format
 pub mod Sizes
 pub mod Lists
 pub mod Check
+pub mod Frame
 pub mod WellFormed
 pub mod Write
 pub mod Writable

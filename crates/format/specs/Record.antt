@@ -1,16 +1,14 @@
 -- The record of an instance: every entry of every table, from the bytes of the book. Assumes nothing.
-use Prim.Native.Nat.{ℕ, _+_, _*_, _≤_, _<_}
+use Prim.Native.Nat.{ℕ, _+_, _*_, _<_}
 use mathlib.Core.Path.{_≡_}
 use mathlib.Core.List.{List}
-use lib.ListN.{length, getD, replicate}
+use lib.ListN.{length, replicate}
 use denote.Ref.{RefT}
-use Rattle.laws.specs.Onto.{Into}
-use Rattle.laws.specs.Table.{cell, Filled}
+use Rattle.laws.specs.Table.{cell}
 use Rattle.format.specs.declared.record.Instance.{Instance}
 use Rattle.format.specs.Verdict.{Verdict, fine, refused, verdictOf}
-use Rattle.format.specs.Format.{largest, byte, people, listLength, entry}
+use Rattle.format.specs.Format.{largest, people, listLength, entry}
 use Rattle.format.specs.Check.{checkBook}
-use Rattle.format.specs.WellFormed.{WellFormed}
 use Rattle.format.specs.Place.{place}
 
 -- How many cells a table of lists and a table of ranks have
@@ -20,14 +18,16 @@ listCells = largest * (largest + 1)
 abbrev pub rankCells : ℕ
 rankCells = largest * largest
 
--- The tables of one side of n persons with the first `rows` of them done, whose lists are those from number `from`
--- on: the entries of each list in a row, after the n rows how long each is, and the place of w on it in a row of the
--- ranks. Past them all is 0
-pub record SideTables (b : List ℕ) (n from rows : ℕ) (lists ranks : List ℕ) : Type 0 where
-  pub entries : {i j : ℕ} → i < rows → j < n → cell lists n i j ≡ entry b (from + i) j
-  pub lengths : {i : ℕ} → i < rows → cell lists n n i ≡ listLength b (from + i)
-  pub lists-past : {p : ℕ} → n * n + n ≤ p → getD lists p 0 ≡ 0
-  pub ranks-done : Filled rows n (λ i w. place b (from + i) w) ranks
+-- What a cell of a table of ranks holds before it is filled: no place
+abbrev pub unranked : ℕ
+unranked = 32768
+
+-- The tables of one side of n persons, whose lists are those from number `from` on: the entries of each list in a row,
+-- after the n rows how long each is, and the place of w on it in a row of the ranks. Other cells may hold anything
+pub record SideTables (b : List ℕ) (n from : ℕ) (lists ranks : List ℕ) : Type 0 where
+  pub entries : {i j : ℕ} → i < n → j < n → cell lists n i j ≡ entry b (from + i) j
+  pub lengths : {i : ℕ} → i < n → cell lists n n i ≡ listLength b (from + i)
+  pub places : {i w : ℕ} → i < n → w < n → cell ranks n i w ≡ place b (from + i) w
   pub lists-long : length lists ≡ listCells
   pub ranks-long : length ranks ≡ rankCells
 
@@ -54,37 +54,16 @@ numberIf (refused number place second) n = 0
 -- The tables are those of n men and n women: the men's lists are those from number 0 on, the women's those from n on
 pub record RecordIs (b : List ℕ) (n : ℕ) (r : Record) : Type 0 where
   pub number : r .n ≡ n
-  pub men : SideTables b n 0 n (r .mlists) (r .mranks)
-  pub women : SideTables b n n n (r .wlists) (r .wranks)
+  pub men : SideTables b n 0 (r .mlists) (r .mranks)
+  pub women : SideTables b n n (r .wlists) (r .wranks)
 
--- What is made of a book: the check's answer, n, and the tables; on a refusal n is 0, so that all entries are
+-- What is made of a book: the check's answer, n, and the tables; on a refusal n is 0, so that the cells may hold anything
 pub record Recorded (b : List ℕ) (i : Instance) (r : Record) : Type 0 where
   pub checked : verdictOf (i .checked) ≡ checkBook b
   pub tables : RecordIs b (numberIf (checkBook b) (people b)) r
   pub number : i .n ≡ r .n
 
--- What the function that makes it needs: tables of zeros
-pub record Cleared (lists ranks : List ℕ) : Type 0 where
-  pub lists-cleared : lists ≡ replicate listCells 0
-  pub ranks-cleared : ranks ≡ replicate rankCells 0
-
--- What the function that fills one row of both tables needs: entries of the list l that are different numbers below its
--- length, and room in the two tables from index `at` on
-pub record RowSource (l : List ℕ) (at : ℕ) (lists ranks : List ℕ) : Type 0 where
-  pub names : Into (length l) (length l) (byte l)
-  pub few : length l ≤ largest
-  pub room : at + length l ≤ length lists
-  pub rank-room : at + length l ≤ length ranks
-  pub lists-small : length lists ≤ listCells
-  pub ranks-small : length ranks ≤ rankCells
-
--- What the functions that fill the tables need of a book: it is well formed, of n men and n women, or n is 0
-pub record Source (b : List ℕ) (n : ℕ) : Type 0 where
-  pub formed : 0 < n → WellFormed b
-  pub number : 0 < n → n ≡ people b
-  pub few : n ≤ largest
-
--- and where the lists of a side begin
-pub record SideSource (b : List ℕ) (n from : ℕ) : Type 0 where
-  pub source : Source b n
-  pub start : from ≤ n
+-- What the function that makes it needs of the two tables of a side: no cell of the ranks is filled
+pub record Unfilled (lists ranks : List ℕ) : Type 0 where
+  pub lists-long : length lists ≡ listCells
+  pub blank : ranks ≡ replicate rankCells unranked

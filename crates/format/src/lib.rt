@@ -5,12 +5,14 @@
 // proofs of the crates above cite. `Instance::LARGEST` and `largest` of specs/Format.antt are the one limit on n:
 // every other bound is derived from them.
 mod counted;
+mod framed;
 mod people;
 mod record;
 mod sizes;
 mod verdict;
 
 pub use counted::Counted;
+pub use framed::Framed;
 pub use people::Man;
 pub use people::Woman;
 pub use record::Instance;

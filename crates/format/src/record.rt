@@ -4,7 +4,7 @@ use crate::verdict::Checked;
 // What is made of a book: the answer of its check, and n, 0 on a refusal. The tables are lent to the function that
 // makes it, two for each side. Person i has row i of a table, of n cells: in a table of lists the entries of his
 // list, in a table of ranks at cell w the place of w on it. After its n rows a table of lists has a cell for the
-// length of each list. On a refusal the tables hold zeros alone.
+// length of each list. Other cells may hold anything.
 pub struct Instance {
     pub checked: Checked,
     pub n: usize,
@@ -17,4 +17,7 @@ impl Instance {
     pub const LISTS: usize = Instance::LARGEST * (Instance::LARGEST + 1);
 
     pub const RANKS: usize = Instance::LARGEST * Instance::LARGEST;
+
+    // What every cell of a table of ranks holds before it is filled: no place.
+    pub const UNRANKED: u16 = 32768;
 }

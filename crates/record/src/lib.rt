@@ -1,4 +1,7 @@
-// The record of a book, whose tables the crates above work on. specs/ has the laws of the loops that fill them.
+// The record of a book, whose tables the crates above work on. specs/ has what the functions that fill them promise,
+// and the laws of their loops.
+mod lists;
+mod ranks;
 mod tables;
 
 pub use tables::load;

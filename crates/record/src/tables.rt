@@ -1,20 +1,21 @@
 // Makes the record of a book: its tables are filled once from the lists.
+use crate::lists::fill_lists;
+use crate::ranks::rank_lists;
 use book::check;
-use book::list_of;
-use book::wide;
+use book::framed;
+use book::lists_from;
 use format::Checked;
+use format::Framed;
 use format::Instance;
 ghost use mathlib.Core.Path.{_≡_};
-ghost use lib.ListN.{length};
 ghost use Rattle.laws.specs.Moment.{now₀, now₁};
-ghost use Rattle.laws.specs.Stores.{Stores};
 ghost use Rattle.format.specs.Verdict.{verdictOf};
-ghost use Rattle.format.specs.Format.{byte, people};
 ghost use Rattle.format.specs.Check.{checkBook};
-ghost use Rattle.format.specs.Record.{numberIf, recordOf, Cleared, Recorded, SideSource, SideTables, RowSource};
+ghost use Rattle.format.specs.Record.{recordOf, Recorded, Unfilled};
+ghost use Rattle.record.specs.Filling.{Block, SideFilled};
 
-// Makes the record of a book in the lent tables, which hold zeros: of one that is refused n is 0, and the tables stay
-// zeros.
+// Makes the record of a book in the lent tables, of which those of ranks have no cell filled. Of a book that is
+// refused n is 0, and the tables may hold anything.
 pub fn load(
     book: &[u8],
     mlists: &mut [u16; Instance::LISTS],
@@ -22,66 +23,46 @@ pub fn load(
     wlists: &mut [u16; Instance::LISTS],
     wranks: &mut [u16; Instance::RANKS],
 ) -> Instance
-    requires { ⌜ Cleared (now mlists) (now mranks) ⌝ }
-    requires { ⌜ Cleared (now wlists) (now wranks) ⌝ }
+    requires { ⌜ Unfilled (now mlists) (now mranks) ⌝ }
+    requires { ⌜ Unfilled (now wlists) (now wranks) ⌝ }
     ensures { λ r. ⌜ Recorded (now₀ book) r (recordOf (r .n) (now₁ mlists) (now₁ mranks) (now₁ wlists) (now₁ wranks)) ⌝ }
 {
-    let checked = check(book);
-    let n = number(checked, book);
-    fill_side(book, n, 0, mlists, mranks);
-    fill_side(book, n, n, wlists, wranks);
-    Instance { checked, n }
-}
-
-// n of a book that is well formed, and 0 where it is refused.
-fn number(checked: Checked, book: &[u8]) -> usize
-    requires { ⌜ verdictOf checked ≡ checkBook (now book) ⌝ }
-    ensures { λ r. ⌜ r ≡ numberIf (checkBook (now₀ book)) (people (now₀ book)) ⌝ }
-{
-    let Checked::Fine = checked else {
-        return 0;
+    let frame = framed(book);
+    let Framed::People(n) = frame else {
+        return without_tables(book);
     };
-    wide(book[1])
+    if !fill_side(lists_from(book, n, 0, n), n, mlists, mranks) {
+        return without_tables(book);
+    }
+    if !fill_side(lists_from(book, n, n, n), n, wlists, wranks) {
+        return without_tables(book);
+    }
+    Instance {
+        checked: Checked::Fine,
+        n,
+    }
 }
 
-// Fills the tables of one side row by row. Its lists are those from number `from` on.
+// The answer of the check, with n = 0.
+fn without_tables(book: &[u8]) -> Instance
+    ensures { λ r. ⌜ (verdictOf (r .checked) ≡ checkBook (now₀ book)) × (r .n ≡ 0) ⌝ }
+{
+    Instance {
+        checked: check(book),
+        n: 0,
+    }
+}
+
+// Fills the tables of one side from the bytes of its lists, and says whether each list names everybody.
 fn fill_side(
-    book: &[u8],
+    bytes: &[u8],
     n: usize,
-    from: usize,
     lists: &mut [u16; Instance::LISTS],
     ranks: &mut [u16; Instance::RANKS],
-)
-    requires { ⌜ SideSource (now book) n from ⌝ }
-    requires { ⌜ SideTables (now book) n from 0 (now lists) (now ranks) ⌝ }
-    ensures { λ _. ⌜ SideTables (now₀ book) n from n (now₁ lists) (now₁ ranks) ⌝ }
+) -> bool
+    requires { ⌜ Block n (now bytes) × Unfilled (now lists) (now ranks) ⌝ }
+    ensures { λ r. ⌜ SideFilled n (now₀ bytes) (now₁ lists) (now₁ ranks) r ⌝ }
 {
-    let mut i = 0;
-    while i < n {
-        let list = list_of(book, from + i);
-        lists[n * n + i] = list.len() as u16;
-        fill_row(list, i * n, lists, ranks);
-        i += 1;
-    }
-}
-
-// Fills the row of both tables that starts at `at`: entry j of the list goes to cell j of the lists, and j to the
-// cell of the ranks that the entry names.
-fn fill_row(
-    list: &[u8],
-    at: usize,
-    lists: &mut [u16; Instance::LISTS],
-    ranks: &mut [u16; Instance::RANKS],
-)
-    requires { ⌜ RowSource (now list) at (now lists) (now ranks) ⌝ }
-    ensures entries { λ _. ⌜ Stores at (length (now₀ list)) (λ j. j) (byte (now₀ list)) (now₀ lists) (now₁ lists) ⌝ }
-    ensures places { λ _. ⌜ Stores at (length (now₀ list)) (byte (now₀ list)) (λ j. j) (now₀ ranks) (now₁ ranks) ⌝ }
-{
-    let mut j = 0;
-    while j < list.len() {
-        let e = wide(list[j]);
-        lists[at + j] = e as u16;
-        ranks[at + e] = j as u16;
-        j += 1;
-    }
+    fill_lists(bytes, n, lists);
+    rank_lists(bytes, n, ranks)
 }

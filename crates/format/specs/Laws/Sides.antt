@@ -1,21 +1,16 @@
 -- The lists of a well formed book, by person: what holds of list k, and of the list of person i of a side. Assumes
 -- nothing.
 use Prim.Native.Nat.{ℕ, _+_, _*_, _≤_, _<_}
-use mathlib.Core.Path.{_≡_, sym, subst}
+use mathlib.Core.Path.{_≡_, subst⁻¹}
 use mathlib.Core.List.{List}
 use native.Mathlib.Omega.{arith}
 use Rattle.laws.specs.Onto.{Into}
 use Rattle.format.specs.Format.{people, listLength, entry}
-use Rattle.format.specs.Check.{Listed}
-use Rattle.format.specs.WellFormed.{WellFormed, fine-well-formed}
+use Rattle.format.specs.WellFormed.{WellFormed}
 use Rattle.format.specs.Place.{place, place-lt, entry-at-place, place-of-entry}
-use Rattle.format.specs.Record.{Source}
-use Rattle.format.specs.Laws.Stages.{fine-passed}
-use Rattle.format.specs.Laws.Directory.{listed}
 
--- List k lies within the book, has n entries that are different numbers below n, and it and its places are inverse
+-- List k has n entries that are different numbers below n, and it and its places are inverse
 pub record FullList (b : List ℕ) (n k : ℕ) : Type 0 where
-  pub lies : Listed b k
   pub long : listLength b k ≡ n
   pub names : Into n n (entry b k)
   pub place-small : {w : ℕ} → w < n → place b k w < n
@@ -26,7 +21,6 @@ pub record FullList (b : List ℕ) (n k : ℕ) : Type 0 where
 full-list : {b : List ℕ} {k : ℕ} → WellFormed b → k < 2 * people b → FullList b (people b) k
 full-list {b} W h =
     record {
-      lies = listed (fine-passed b (fine-well-formed b .1 W) .pairs) h;
       long = W .lengths h;
       names = W .names h;
       place-small = place-lt W h;
@@ -35,7 +29,5 @@ full-list {b} W h =
     }
 
 -- and the list of each person of a side, whose lists are those from number `from` on
-pub side-list : {b : List ℕ} {n from i : ℕ} → Source b n → from ≤ n → i < n → FullList b n (from + i)
-side-list {b} {n} {from} {i} F h u =
-    let q : n ≡ people b = F .number (omega arith) in
-    subst (λ (m : ℕ). FullList b m (from + i)) (sym q) (full-list (F .formed (omega arith)) (omega arith))
+pub side-list : {b : List ℕ} {n from i : ℕ} → WellFormed b → n ≡ people b → from ≤ n → i < n → FullList b n (from + i)
+side-list {b} {from = from} {i = i} W e h u = subst⁻¹ (λ (m : ℕ). FullList b m (from + i)) e (full-list W (omega arith))

@@ -13,15 +13,12 @@ use Rattle.tables.specs.Lists.{sideOf, atIn, lenIn, Stored, Agrees, Sound}
 use Rattle.format.specs.Format.{largest, people, listLength}
 use Rattle.format.specs.WellFormed.{WellFormed}
 use Rattle.format.specs.Place.{place}
-use Rattle.format.specs.Record.{Record, SideTables, RecordIs, Source}
+use Rattle.format.specs.Record.{Record, SideTables, RecordIs}
 use Rattle.format.specs.Ranks.{length-full, list-lt}
 use Rattle.matchings.specs.BookMarket.{sideAt, market, market-proper}
 use Rattle.instances.specs.Usable.{byMen, byWomen, marketIn, Usable}
 
-module _ {b lists ranks : List ℕ} {n from : ℕ} (W : WellFormed b) (e : n ≡ people b) (h : from ≤ n) (S : SideTables b n from n lists ranks) where
-  source : Source b n
-  source = record { formed = λ l. W; number = λ l. e; few = omega (arith, W .few) }
-
+module _ {b lists ranks : List ℕ} {n from : ℕ} (W : WellFormed b) (e : n ≡ people b) (h : from ≤ n) (S : SideTables b n from lists ranks) where
   -- the tables have room for all rows
   few : n ≤ largest
   few = omega (arith, W .few)
@@ -33,7 +30,7 @@ module _ {b lists ranks : List ℕ} {n from : ℕ} (W : WellFormed b) (e : n ≡
   ranks-room = omega (arith, S .ranks-long, mul-le-mul few few)
 
   full : {i : ℕ} → i < n → lenIn n n lists i ≡ n
-  full u = length-full source h S u
+  full u = length-full W e h S u
 
   len-at : {i : ℕ} → i < n → lenIn n n lists i ≡ listLength b (from + i)
   len-at u = S .lengths u
@@ -56,13 +53,13 @@ module _ {b lists ranks : List ℕ} {n from : ℕ} (W : WellFormed b) (e : n ≡
       record {
         rows = lists-room;
         short = λ u. omega (arith, full u);
-        small = λ {i} {k} u l. list-lt source h S u (omega (arith, full u));
+        small = λ {i} {k} u l. list-lt W e h S u (omega (arith, full u));
       }
 
   -- the ranks agree with the side
   side-agrees : Agrees (sideOf n n lists) n ranks
   unfolding place
-  side-agrees = record { rank = λ {i} {w} u v. S .ranks-done .cells u v ∙ sym (side-alike .place u v) }
+  side-agrees = record { rank = λ {i} {w} u v. S .places u v ∙ sym (side-alike .place u v) }
 
 module _ {b : List ℕ} {r : Record} (W : WellFormed b) (T : RecordIs b (people b) r) where
   -- the record has the book's number of persons

@@ -1,106 +1,43 @@
--- `check` meets its contract: at each return the rules before are passed, and the verdict is that of the rule at hand.
+-- `check` meets its contract: a refusal of the frame is the book's, and with a right frame the verdict on the lists is.
 -- Assumes nothing.
-use mathlib.Core.Path.{sym, _∙_}
+use mathlib.Core.Path.{sym, _∙_, ap}
 use borrow.Author.Needs.{needs}
-use Rattle.format.specs.Check.{RightSize}
-use Rattle.format.specs.Laws.Stages.{Opened, check-tiny, check-edition, check-crowd, check-short, check-long, sized, in-order, check-wrong-pair, check-right-pairs}
+use Rattle.format.specs.Verdict.{verdictOf}
+use Rattle.format.specs.Frame.{RightFrame}
+use Rattle.format.specs.Laws.Frame.{frame-right, frame-lists}
 use Rattle.book.proofs.rules.check.Statement.{statement}
 use Rattle.book.proofs.rules.check.Tie as tie
 
--- from each place to the one before it that the proof names
-abbrev two : tie.Else2 → tie.Else1
-two c = search
+returns : tie.Need-returns
+returns c =
+    let k : tie.After-check-frame = search in k .check-frame .ensures .refusal (ap verdictOf (c .enum-told2 .given .1))
 
-abbrev read : tie.Else3 → tie.After-people-in
-read c = search
-
-abbrev start : tie.Else3 → tie.Start
+abbrev start : tie.After-check-frame → tie.Start
 start c = search
 
-abbrev few : tie.Else5 → tie.Else3
-few c = search
+abbrev checked : tie.After-people-in → tie.After-check-frame
+checked c = search
 
--- what is known once the first two bytes are read
-opened : (c : tie.Else3) → Opened (start c .args .book .now) (read c .people-in .result)
-opened c =
-    let edition : tie.Else2 = search in
-    record {
-      long = two edition .if1 .left;
-      edition = edition .if2 .left;
-      number = read c .people-in .ensures .0;
-      few = c .if3 .left;
-    }
-
--- and once the size is compared
-fits-size : (c : tie.Else5) → RightSize (start (few c) .args .book .now) (read (few c) .people-in .result)
-fits-size c =
-    let s : tie.After-size-of = search in
-    let short : tie.Else4 = search in
-    sized (opened (few c)) (s .size-of .ensures) (short .if4 .left) (c .if5 .left)
-
-returns-2 : tie.Need-returns-2
-returns-2 c =
-    let long : tie.Else1 = search in
-    c .refuse2 .ensures ∙ sym (check-edition _ (long .if1 .left) (c .before .if2 .taken))
-
-returns-3 : tie.Need-returns-3
-returns-3 c =
-    let edition : tie.Else2 = search in
-    let n : tie.After-people-in = search in
-    c .refuse3 .ensures ∙ sym
-    (check-crowd _ (two edition .if1 .left) (edition .if2 .left) (n .people-in .ensures .0) (c .before .if3 .taken))
-
-returns-4 : tie.Need-returns-4
-returns-4 c =
-    let s : tie.After-size-of = search in
-    c .refuse4 .ensures ∙ sym (check-short (opened (s .before)) (s .size-of .ensures) (c .before .if4 .taken))
-
-returns-5 : tie.Need-returns-5
-returns-5 c =
-    let s : tie.After-size-of = search in
-    c .refuse5 .ensures ∙ sym (check-long (opened (s .before)) (s .size-of .ensures) (c .before .if5 .taken))
-
-returns-6 : tie.Need-returns-6
-returns-6 c =
-    let p : tie.After-first-wrong-pair = search in
-    let s : tie.Else5 = search in
-    c .refuse6 .ensures ∙ sym
-    (check-wrong-pair (opened (few s)) (fits-size s) (p .first-wrong-pair .ensures) (c .before .if6 .taken))
+-- the frame is right
+right : (c : tie.After-people-in) → RightFrame (start (checked c) .args .book .now) (c .people-in .result)
+right c =
+    let t : tie.After-enum-told = search in
+    frame-right (checked c .check-frame .ensures) (ap verdictOf (t .enum-told .given .1)) (c .people-in .ensures .0)
 
 check-lists-requires : tie.Need-check-lists-requires
-check-lists-requires c κs =
-    let s : tie.Else5 = search in
-    in-order (opened (few s)) (fits-size s) (c .before .first-wrong-pair .ensures) (c .if6 .left)
+check-lists-requires c κs = right c .pairs
 
-returns-7 : tie.Need-returns-7
-returns-7 c =
-    let p : tie.After-first-wrong-pair = search in
-    let s : tie.Else5 = search in
-    c .check-lists .ensures ∙ sym
-    (check-right-pairs (opened (few s)) (fits-size s) (p .first-wrong-pair .ensures) (c .before .if6 .left))
+returns-2 : tie.Need-returns-2
+returns-2 c = let p : tie.After-people-in = search in c .check-lists .ensures ∙ sym (frame-lists (right p))
 
 pub check-spec : {M : Type 1} → statement M
 check-spec =
     tie.close
     (tie.spec
     (λ c κs. search needs)
-    (λ c. c .refuse .ensures ∙ sym (check-tiny _ (c .before .if1 .taken)))
-    (λ c. search needs)
-    (λ c κs. search needs)
-    returns-2
-    (λ c κs. search needs)
-    (λ c κs. search needs)
-    returns-3
-    (λ c κs. search needs)
-    (λ c κs. search needs)
-    returns-4
-    (λ c κs. search needs)
-    returns-5
-    (λ c κs. fits-size c)
     (λ c. search needs)
     (λ c. search needs)
-    (λ c. search needs)
+    returns
     (λ c κs. search needs)
-    returns-6
     check-lists-requires
-    returns-7)
+    returns-2)

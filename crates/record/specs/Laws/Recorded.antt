@@ -1,0 +1,92 @@
+-- The record that goes with the check's answer. Assumes nothing.
+use Prim.Native.Nat.{ℕ, _+_, _*_, _-_, _<_}
+use mathlib.Core.Path.{_≡_, refl, sym, _∙_, subst, subst⁻¹}
+use mathlib.Core.Bool.{Bool, true}
+use mathlib.Core.List.{List}
+use native.Mathlib.Omega.{arith}
+use lib.ListN.{length, length-replicate}
+use Rattle.laws.specs.Choice.{split}
+use Rattle.laws.specs.Onto.{Into}
+use Rattle.format.specs.declared.record.Instance.{Instance}
+use Rattle.format.specs.Verdict.{Verdict, fine, refused, verdictOf}
+use Rattle.format.specs.Format.{people, entry}
+use Rattle.format.specs.Check.{checkBook}
+use Rattle.format.specs.WellFormed.{WellFormed, fine-well-formed}
+use Rattle.format.specs.Record.{listCells, rankCells, unranked, SideTables, numberIf, recordOf, RecordIs, Recorded, Unfilled}
+use Rattle.format.specs.Frame.{RightEntries, ListsFrom}
+use Rattle.format.specs.Laws.Frame.{frame-formed}
+use Rattle.record.specs.Filling.{SideFilled}
+use Rattle.record.specs.Laws.Sides.{side-names, side-tables}
+
+-- Tables of which only the lengths are known
+pub record Long (lists ranks : List ℕ) : Type 0 where
+  pub lists-long : length lists ≡ listCells
+  pub ranks-long : length ranks ≡ rankCells
+
+-- so are those that are lent, and those that are filled
+pub unfilled-long : {lists ranks : List ℕ} → Unfilled lists ranks → Long lists ranks
+unfilled-long U = record { lists-long = U .lists-long; ranks-long = rw (U .blank) (length-replicate {A = ℕ} rankCells unranked) }
+
+pub filled-long : {n : ℕ} {l lists ranks : List ℕ} {full : Bool} → SideFilled n l lists ranks full → Long lists ranks
+filled-long S = record { lists-long = S .lists-long; ranks-long = S .ranks-long }
+
+-- on a refusal n is 0, and the tables may hold anything
+none : {n : ℕ} {lists ranks : List ℕ} (b : List ℕ) (from : ℕ) → Long lists ranks → n ≡ 0 → SideTables b n from lists ranks
+none b from T e =
+    record {
+      entries = λ u v. absurd (omega arith);
+      lengths = λ u. absurd (omega arith);
+      places = λ u v. absurd (omega arith);
+      lists-long = T .lists-long;
+      ranks-long = T .ranks-long;
+    }
+
+number-none : (v : Verdict) (n : ℕ) → (v ≡ fine → ⊥) → numberIf v n ≡ 0
+number-none fine n h = absurd (h refl)
+number-none (refused number place second) n h = refl
+
+pub recorded-refused :
+    {b mlists mranks wlists wranks : List ℕ} {i : Instance} → Long mlists mranks → Long wlists wranks → verdictOf (i .checked) ≡ checkBook b → i .n ≡ 0
+    → (checkBook b ≡ fine → ⊥) → Recorded b i (recordOf (i .n) mlists mranks wlists wranks)
+recorded-refused {b} M W e q h =
+    let z = number-none (checkBook b) (people b) h in
+    record {
+      checked = e;
+      tables = record { number = q ∙ sym z; men = none b 0 M z; women = none b _ W z };
+      number = refl;
+    }
+
+-- Both sides' tables are filled, and no rank is left
+module _
+    {b mbytes wbytes mlists mranks wlists wranks : List ℕ} {n : ℕ} {men women : Bool} (E : RightEntries b n)
+    (M : ListsFrom b n 0 n mbytes) (W : ListsFrom b n n n wbytes)
+    (S : SideFilled n mbytes mlists mranks men) (T : SideFilled n wbytes wlists wranks women) (r : men ≡ true) (t : women ≡ true) where
+  -- each list names everybody
+  names : (k : ℕ) → k < 2 * n → Into n n (entry b k)
+  names k h =
+      split n k
+      (λ u.
+      let e : n + (k - n) ≡ k = omega arith in
+      subst (λ (j : ℕ). Into n n (entry b j)) e (side-names E (omega arith) W T t (k - n) (omega arith)))
+      (λ u. let e : 0 + k ≡ k = omega arith in subst (λ (j : ℕ). Into n n (entry b j)) e (side-names E (omega arith) M S r k u))
+
+  formed : WellFormed b
+  formed = frame-formed (E .frame) names
+
+  -- so nothing is refused, and the tables are those of n men and n women
+  pub recorded-fine : {i : Instance} → verdictOf (i .checked) ≡ fine → i .n ≡ n → Recorded b i (recordOf (i .n) mlists mranks wlists wranks)
+  recorded-fine {i} e z =
+      let f = fine-well-formed b .1 formed in
+      let q = E .frame .opened .number in
+      record {
+        checked = e ∙ sym f;
+        tables =
+            subst⁻¹ (λ (v : Verdict). RecordIs b (numberIf v (people b)) (recordOf (i .n) mlists mranks wlists wranks)) f
+            (subst (λ (m : ℕ). RecordIs b m (recordOf (i .n) mlists mranks wlists wranks)) q
+            (record {
+              number = z;
+              men = side-tables E (omega arith) M S r formed q;
+              women = side-tables E (omega arith) W T t formed q;
+            }));
+        number = refl;
+      }

@@ -1,0 +1,63 @@
+// Fills a table of ranks, whose cells hold a mark that is no place before: where a cell is left at it the list of its
+// row does not name the person of its column.
+use book::wide;
+use format::Instance;
+ghost use mathlib.Core.Path.{_≡_};
+ghost use Prim.Native.Nat.{_*_, _≤_};
+ghost use lib.ListN.{length};
+ghost use lib.Dec.{ltb};
+ghost use Rattle.laws.specs.Every.{every};
+ghost use Rattle.laws.specs.Moment.{now₀, now₁, vec₀, vec₁};
+ghost use Rattle.format.specs.Record.{unranked};
+ghost use Rattle.record.specs.Filling.{Block, ListRanked, RanksFilled, RankRows, RowSource};
+
+// Fills a table of ranks from the bytes of n lists, and says whether each list names everybody.
+pub fn rank_lists(bytes: &[u8], n: usize, ranks: &mut [u16]) -> bool
+    requires { ⌜ Block n (now bytes) × RankRows n (now bytes) 0 (now ranks) ⌝ }
+    ensures { λ r. ⌜ RanksFilled n (now₀ bytes) (now₁ ranks) r ⌝ }
+{
+    rank_rows(bytes, n, ranks);
+    all_ranked(ranks, n * n)
+}
+
+// Fills the rows one after the other.
+fn rank_rows(bytes: &[u8], n: usize, ranks: &mut [u16])
+    requires { ⌜ Block n (now bytes) × RankRows n (now bytes) 0 (now ranks) ⌝ }
+    ensures { λ _. ⌜ RankRows n (now₀ bytes) n (now₁ ranks) ⌝ }
+{
+    let mut i = 0;
+    while i < n {
+        let from = i * n;
+        let to = from + n;
+        rank_row(&bytes[from..to], &mut ranks[from..to]);
+        i += 1;
+    }
+}
+
+// Fills one row: the place of each entry of the list goes to the cell that the entry names.
+fn rank_row(list: &[u8], row: &mut [u16])
+    requires { ⌜ RowSource (now list) (now row) ⌝ }
+    ensures { λ _. ⌜ ListRanked (length (now₀ list)) (length (now₀ list)) (vec₀ list) (vec₁ row) ⌝ }
+{
+    let mut j = 0;
+    while j < list.len() {
+        let entry = wide(list[j]);
+        row[entry] = j as u16;
+        j += 1;
+    }
+}
+
+// Whether none of the first `end` cells is left at the mark. A place is below it, and the mark is a power of two, so
+// that the bits of many cells are gathered at a time.
+fn all_ranked(ranks: &[u16], end: usize) -> bool
+    requires { ⌜ end ≤ length (now ranks) ⌝ }
+    ensures { λ r. ⌜ r ≡ every end (λ p. ltb (vec₀ ranks p) unranked) ⌝ }
+{
+    let mut bits: u16 = 0;
+    let mut p = 0;
+    while p < end {
+        bits |= ranks[p];
+        p += 1;
+    }
+    bits < Instance::UNRANKED
+}
