@@ -2,9 +2,9 @@
 use crate::robustness::grade_of;
 use format::Instance;
 use matchings::Places;
+use pair_groups::group;
 use pair_measures::fill_answers;
 use pair_measures::measure;
-use rotation_groups::group;
 ghost use mathlib.Core.Path.{_≡_};
 ghost use Prim.Native.Nat.{_≤_};
 ghost use lib.ListN.{length};

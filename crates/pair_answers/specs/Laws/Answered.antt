@@ -20,8 +20,8 @@ use Rattle.nearest.specs.Nearest.{Given, GivenIn, farOf, costs}
 use Rattle.nearest.specs.Laws.Tried.{weight-most, answers-down, answers-up, answers-fixed}
 use Rattle.nearest.specs.Laws.Grade.{far-same}
 use Rattle.nearest.specs.Laws.Nearest.{right}
-use Rattle.rotation_groups.specs.declared.groups.Groups.{Groups}
-use Rattle.rotation_groups.specs.Groups.{GroupsOf}
+use Rattle.pair_groups.specs.declared.groups.Groups.{Groups}
+use Rattle.pair_groups.specs.Groups.{GroupsOf}
 use Rattle.pair_measures.specs.Measured.{leadFar, BothMeasured, Filled}
 use Rattle.pair_measures.specs.Laws.Leads.{lead-distant, lead-most}
 use Rattle.pair_answers.specs.Answered.{letterByte, AnswerAt, PairsAnswered}

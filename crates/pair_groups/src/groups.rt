@@ -10,7 +10,7 @@ ghost use Rattle.stable_theory.specs.Stable.Vector.{Stable};
 ghost use Rattle.format.specs.Format.{largest};
 ghost use Rattle.format.specs.Record.{Record, lent};
 ghost use Rattle.instances.specs.Usable.{Usable, marketIn};
-ghost use Rattle.rotation_groups.specs.Groups.{GroupsOf};
+ghost use Rattle.pair_groups.specs.Groups.{GroupsOf};
 
 // How many rotations there are, and who answers for each man: for the repair down of his pair and for the repair up,
 // and n where there is none.

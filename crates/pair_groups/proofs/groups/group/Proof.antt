@@ -8,9 +8,9 @@ use Rattle.laws.specs.Values.{vec}
 use Rattle.tables.specs.Lists.{marketOf}
 use Rattle.stable_theory.specs.Repairs.Repair.{IsDown, IsUp}
 use Rattle.laws.specs.Padded.{zeros-front}
-use Rattle.rotation_groups.specs.Laws.Passing.{frames-long, men-front, women-front, pass-sized, pass-start, grouped-front, front-long}
-use Rattle.rotation_groups.proofs.groups.group.Statement.{statement}
-use Rattle.rotation_groups.proofs.groups.group.Tie as tie
+use Rattle.pair_groups.specs.Laws.Passing.{frames-long, men-front, women-front, pass-sized, pass-start, grouped-front, front-long}
+use Rattle.pair_groups.proofs.groups.group.Statement.{statement}
+use Rattle.pair_groups.proofs.groups.group.Tie as tie
 
 -- from each place to the one before it that the proof names
 abbrev start : tie.After-man-optimal-places → tie.Start

@@ -9,7 +9,7 @@ use Rattle.stable_theory.specs.Rotations.Numbering.{total}
 use Rattle.stable_theory.specs.Repairs.Repair.{IsDown, IsUp}
 use Rattle.instances.specs.Usable.{marketIn}
 use Rattle.rotation_pass.specs.Groups.{Grouped}
-use Rattle.rotation_groups.specs.declared.groups.Groups.{Groups}
+use Rattle.pair_groups.specs.declared.groups.Groups.{Groups}
 
 -- The number of rotations of a record's market, and the groups of the pairs of the stable matching p
 pub record GroupsOf (R : Record) (p : ℕ → ℕ) (r : Groups) : Type 0 where
