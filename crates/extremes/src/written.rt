@@ -41,9 +41,9 @@ fn extreme(proposers: Proposers, book: &[u8], out: &mut [u8]) -> Checked
     ensures bytes { λ _. ⌜ now₁ out ≡ extremeBuffer (now₀ book) (extremeMatching proposers (now₀ book)) (now₀ out) ⌝ }
 {
     let mut mlists = [0u16; Instance::LISTS];
-    let mut mranks = [Instance::UNRANKED; Instance::RANKS];
+    let mut mranks = [0u16; Instance::RANKS];
     let mut wlists = [0u16; Instance::LISTS];
-    let mut wranks = [Instance::UNRANKED; Instance::RANKS];
+    let mut wranks = [0u16; Instance::RANKS];
     let instance = load(book, &mut mlists, &mut mranks, &mut wlists, &mut wranks);
     let answer = instance.checked;
     let n = instance.n;

@@ -63,7 +63,7 @@ pub record Recorded (b : List ℕ) (i : Instance) (r : Record) : Type 0 where
   pub tables : RecordIs b (numberIf (checkBook b) (people b)) r
   pub number : i .n ≡ r .n
 
--- What the function that makes it needs of the two tables of a side: no cell of the ranks is filled
-pub record Unfilled (lists ranks : List ℕ) : Type 0 where
+-- Tables as they are lent: long enough for the largest n, whatever they hold
+pub record LongTables (lists ranks : List ℕ) : Type 0 where
   pub lists-long : length lists ≡ listCells
-  pub blank : ranks ≡ replicate rankCells unranked
+  pub ranks-long : length ranks ≡ rankCells

@@ -19,9 +19,9 @@ pub fn grade(book: &[u8], matching: &[u8]) -> Graded
     ensures { λ r. ⌜ gradeOutcome r ≡ gradeReply (now₀ book) (now₀ matching) ⌝ }
 {
     let mut mlists = [0u16; Instance::LISTS];
-    let mut mranks = [Instance::UNRANKED; Instance::RANKS];
+    let mut mranks = [0u16; Instance::RANKS];
     let mut wlists = [0u16; Instance::LISTS];
-    let mut wranks = [Instance::UNRANKED; Instance::RANKS];
+    let mut wranks = [0u16; Instance::RANKS];
     let instance = load(book, &mut mlists, &mut mranks, &mut wlists, &mut wranks);
     let answer = instance.checked;
     grade_in(

@@ -42,9 +42,9 @@ pub fn matching_to_set(book: &[u8], matching: &[u8], out: &mut [u8]) -> Counted
     ensures bytes { λ _. ⌜ now₁ out ≡ matchingSetBuffer (now₀ book) (now₀ matching) (now₀ out) ⌝ }
 {
     let mut mlists = [0u16; Instance::LISTS];
-    let mut mranks = [Instance::UNRANKED; Instance::RANKS];
+    let mut mranks = [0u16; Instance::RANKS];
     let mut wlists = [0u16; Instance::LISTS];
-    let mut wranks = [Instance::UNRANKED; Instance::RANKS];
+    let mut wranks = [0u16; Instance::RANKS];
     let instance = load(book, &mut mlists, &mut mranks, &mut wlists, &mut wranks);
     let read = instance.checked;
     let n = instance.n;

@@ -27,9 +27,9 @@ pub fn precedes(book: &[u8], first: usize, second: usize) -> Precedence
     ensures { λ r. ⌜ precedenceOutcome r ≡ precedenceReply (now₀ book) first second ⌝ }
 {
     let mut mlists = [0u16; Instance::LISTS];
-    let mut mranks = [Instance::UNRANKED; Instance::RANKS];
+    let mut mranks = [0u16; Instance::RANKS];
     let mut wlists = [0u16; Instance::LISTS];
-    let mut wranks = [Instance::UNRANKED; Instance::RANKS];
+    let mut wranks = [0u16; Instance::RANKS];
     let instance = load(book, &mut mlists, &mut mranks, &mut wlists, &mut wranks);
     let answer = instance.checked;
     let Checked::Fine = answer else {

@@ -1,9 +1,9 @@
-// Fills a table of ranks, whose cells hold a mark that is no place before: where a cell is left at it the list of its
-// row does not name the person of its column.
+// Fills a table of ranks, whose cells first get a mark that is no place: where a cell is left at it the list of its row
+// does not name the person of its column.
 use book::wide;
 use format::Instance;
 ghost use mathlib.Core.Path.{_≡_};
-ghost use Prim.Native.Nat.{_*_, _≤_};
+ghost use Prim.Native.Nat.{ℕ, _*_, _≤_, _<_};
 ghost use lib.ListN.{length};
 ghost use lib.Dec.{ltb};
 ghost use Rattle.laws.specs.Every.{every};
@@ -13,11 +13,24 @@ ghost use Rattle.record.specs.Filling.{Block, ListRanked, RanksFilled, R
 
 // Fills a table of ranks from the bytes of n lists, and says whether each list names everybody.
 pub fn rank_lists(bytes: &[u8], n: usize, ranks: &mut [u16]) -> bool
-    requires { ⌜ Block n (now bytes) × RankRows n (now bytes) 0 (now ranks) ⌝ }
+    requires { ⌜ Block n (now bytes) × (n * n ≤ length (now ranks)) ⌝ }
     ensures { λ r. ⌜ RanksFilled n (now₀ bytes) (now₁ ranks) r ⌝ }
 {
+    clear(ranks, n * n);
     rank_rows(bytes, n, ranks);
     all_ranked(ranks, n * n)
+}
+
+// Puts the mark into the first `end` cells.
+fn clear(ranks: &mut [u16], end: usize)
+    requires { ⌜ end ≤ length (now ranks) ⌝ }
+    ensures { λ _. ⌜ ((p : ℕ) → p < end → vec₁ ranks p ≡ unranked) ⌝ }
+{
+    let mut p = 0;
+    while p < end {
+        ranks[p] = Instance::UNRANKED;
+        p += 1;
+    }
 }
 
 // Fills the rows one after the other.

@@ -11,11 +11,11 @@ ghost use mathlib.Core.Path.{_≡_};
 ghost use Rattle.laws.specs.Moment.{now₀, now₁};
 ghost use Rattle.format.specs.Verdict.{verdictOf};
 ghost use Rattle.format.specs.Check.{checkBook};
-ghost use Rattle.format.specs.Record.{recordOf, Recorded, Unfilled};
+ghost use Rattle.format.specs.Record.{recordOf, Recorded, LongTables};
 ghost use Rattle.record.specs.Filling.{Block, SideFilled};
 
-// Makes the record of a book in the lent tables, of which those of ranks have no cell filled. Of a book that is
-// refused n is 0, and the tables may hold anything.
+// Makes the record of a book in the lent tables, whatever they hold. Of a book that is refused n is 0, and the tables
+// may hold anything afterwards.
 pub fn load(
     book: &[u8],
     mlists: &mut [u16; Instance::LISTS],
@@ -23,8 +23,8 @@ pub fn load(
     wlists: &mut [u16; Instance::LISTS],
     wranks: &mut [u16; Instance::RANKS],
 ) -> Instance
-    requires { ⌜ Unfilled (now mlists) (now mranks) ⌝ }
-    requires { ⌜ Unfilled (now wlists) (now wranks) ⌝ }
+    requires { ⌜ LongTables (now mlists) (now mranks) ⌝ }
+    requires { ⌜ LongTables (now wlists) (now wranks) ⌝ }
     ensures { λ r. ⌜ Recorded (now₀ book) r (recordOf (r .n) (now₁ mlists) (now₁ mranks) (now₁ wlists) (now₁ wranks)) ⌝ }
 {
     let frame = framed(book);
@@ -60,7 +60,7 @@ fn fill_side(
     lists: &mut [u16; Instance::LISTS],
     ranks: &mut [u16; Instance::RANKS],
 ) -> bool
-    requires { ⌜ Block n (now bytes) × Unfilled (now lists) (now ranks) ⌝ }
+    requires { ⌜ Block n (now bytes) × LongTables (now lists) (now ranks) ⌝ }
     ensures { λ r. ⌜ SideFilled n (now₀ bytes) (now₁ lists) (now₁ ranks) r ⌝ }
 {
     fill_lists(bytes, n, lists);

@@ -26,9 +26,9 @@ pub fn list(book: &[u8], out: &mut [u8]) -> Counted
     ensures bytes { λ _. ⌜ now₁ out ≡ listBuffer (now₀ book) (now₀ out) ⌝ }
 {
     let mut mlists = [0u16; Instance::LISTS];
-    let mut mranks = [Instance::UNRANKED; Instance::RANKS];
+    let mut mranks = [0u16; Instance::RANKS];
     let mut wlists = [0u16; Instance::LISTS];
-    let mut wranks = [Instance::UNRANKED; Instance::RANKS];
+    let mut wranks = [0u16; Instance::RANKS];
     let instance = load(book, &mut mlists, &mut mranks, &mut wlists, &mut wranks);
     let answer = instance.checked;
     let Checked::Fine = answer else {

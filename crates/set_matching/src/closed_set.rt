@@ -23,9 +23,9 @@ pub fn set_to_matching(book: &[u8], set: &[u8], out: &mut [u8]) -> Checked
     ensures bytes { λ _. ⌜ now₁ out ≡ setMatchingBuffer (now₀ book) (now₀ set) (now₀ out) ⌝ }
 {
     let mut mlists = [0u16; Instance::LISTS];
-    let mut mranks = [Instance::UNRANKED; Instance::RANKS];
+    let mut mranks = [0u16; Instance::RANKS];
     let mut wlists = [0u16; Instance::LISTS];
-    let mut wranks = [Instance::UNRANKED; Instance::RANKS];
+    let mut wranks = [0u16; Instance::RANKS];
     let instance = load(book, &mut mlists, &mut mranks, &mut wlists, &mut wranks);
     let answer = instance.checked;
     let Checked::Fine = answer else {

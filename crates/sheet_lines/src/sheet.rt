@@ -44,9 +44,9 @@ fn put_sheet(input: &[u8], text: &mut [u8]) -> usize
 {
     let end = book_end(input);
     let mut mlists = [0u16; Instance::LISTS];
-    let mut mranks = [Instance::UNRANKED; Instance::RANKS];
+    let mut mranks = [0u16; Instance::RANKS];
     let mut wlists = [0u16; Instance::LISTS];
-    let mut wranks = [Instance::UNRANKED; Instance::RANKS];
+    let mut wranks = [0u16; Instance::RANKS];
     let instance = load(
         &input[..end],
         &mut mlists,

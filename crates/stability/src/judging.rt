@@ -19,9 +19,9 @@ pub fn check(book: &[u8], matching: &[u8]) -> Checked
     ensures { λ r. ⌜ verdictOf r ≡ checkMatching (now₀ book) (now₀ matching) ⌝ }
 {
     let mut mlists = [0u16; Instance::LISTS];
-    let mut mranks = [Instance::UNRANKED; Instance::RANKS];
+    let mut mranks = [0u16; Instance::RANKS];
     let mut wlists = [0u16; Instance::LISTS];
-    let mut wranks = [Instance::UNRANKED; Instance::RANKS];
+    let mut wranks = [0u16; Instance::RANKS];
     let made = load(book, &mut mlists, &mut mranks, &mut wlists, &mut wranks);
     let answer = made.checked;
     let judged = judge(answer, made.n, &mlists, &mranks, &wlists, &wranks, matching);

@@ -4,7 +4,7 @@ use mathlib.Core.Path.{_≡_, refl, sym, _∙_, subst, subst⁻¹}
 use mathlib.Core.Bool.{Bool, true}
 use mathlib.Core.List.{List}
 use native.Mathlib.Omega.{arith}
-use lib.ListN.{length, length-replicate}
+use lib.ListN.{length}
 use Rattle.laws.specs.Choice.{split}
 use Rattle.laws.specs.Onto.{Into}
 use Rattle.format.specs.declared.record.Instance.{Instance}
@@ -12,26 +12,18 @@ use Rattle.format.specs.Verdict.{Verdict, fine, refused, verdictOf}
 use Rattle.format.specs.Format.{people, entry}
 use Rattle.format.specs.Check.{checkBook}
 use Rattle.format.specs.WellFormed.{WellFormed, fine-well-formed}
-use Rattle.format.specs.Record.{listCells, rankCells, unranked, SideTables, numberIf, recordOf, RecordIs, Recorded, Unfilled}
+use Rattle.format.specs.Record.{SideTables, numberIf, recordOf, RecordIs, Recorded, LongTables}
 use Rattle.format.specs.Frame.{RightEntries, ListsFrom}
 use Rattle.format.specs.Laws.Frame.{frame-formed}
 use Rattle.record.specs.Filling.{SideFilled}
 use Rattle.record.specs.Laws.Sides.{side-names, side-tables}
 
--- Tables of which only the lengths are known
-pub record Long (lists ranks : List ℕ) : Type 0 where
-  pub lists-long : length lists ≡ listCells
-  pub ranks-long : length ranks ≡ rankCells
-
--- so are those that are lent, and those that are filled
-pub unfilled-long : {lists ranks : List ℕ} → Unfilled lists ranks → Long lists ranks
-unfilled-long U = record { lists-long = U .lists-long; ranks-long = rw (U .blank) (length-replicate {A = ℕ} rankCells unranked) }
-
-pub filled-long : {n : ℕ} {l lists ranks : List ℕ} {full : Bool} → SideFilled n l lists ranks full → Long lists ranks
+-- tables that are filled are as long as before
+pub filled-long : {n : ℕ} {l lists ranks : List ℕ} {full : Bool} → SideFilled n l lists ranks full → LongTables lists ranks
 filled-long S = record { lists-long = S .lists-long; ranks-long = S .ranks-long }
 
 -- on a refusal n is 0, and the tables may hold anything
-none : {n : ℕ} {lists ranks : List ℕ} (b : List ℕ) (from : ℕ) → Long lists ranks → n ≡ 0 → SideTables b n from lists ranks
+none : {n : ℕ} {lists ranks : List ℕ} (b : List ℕ) (from : ℕ) → LongTables lists ranks → n ≡ 0 → SideTables b n from lists ranks
 none b from T e =
     record {
       entries = λ u v. absurd (omega arith);
@@ -46,7 +38,7 @@ number-none fine n h = absurd (h refl)
 number-none (refused number place second) n h = refl
 
 pub recorded-refused :
-    {b mlists mranks wlists wranks : List ℕ} {i : Instance} → Long mlists mranks → Long wlists wranks → verdictOf (i .checked) ≡ checkBook b → i .n ≡ 0
+    {b mlists mranks wlists wranks : List ℕ} {i : Instance} → LongTables mlists mranks → LongTables wlists wranks → verdictOf (i .checked) ≡ checkBook b → i .n ≡ 0
     → (checkBook b ≡ fine → ⊥) → Recorded b i (recordOf (i .n) mlists mranks wlists wranks)
 recorded-refused {b} M W e q h =
     let z = number-none (checkBook b) (people b) h in

@@ -6,7 +6,7 @@ use mathlib.Core.Bool.{Bool, true, false}
 use mathlib.Core.List.{List}
 use native.Mathlib.Omega.{arith}
 use lib.Dec.{ltb}
-use lib.ListN.{replicate, getD-replicate, length-replicate}
+use lib.ListN.{length}
 use borrow.Author.Tests.{ltb-true, lt-ltb}
 use Rattle.laws.specs.Every.{every-true, every-all}
 use Rattle.laws.specs.First.{clash}
@@ -18,23 +18,17 @@ use Rattle.format.specs.Format.{people, entry}
 use Rattle.format.specs.Check.{checkBook}
 use Rattle.format.specs.WellFormed.{WellFormed}
 use Rattle.format.specs.Place.{place}
-use Rattle.format.specs.Record.{rankCells, unranked, SideTables}
+use Rattle.format.specs.Record.{unranked, SideTables}
 use Rattle.format.specs.Frame.{RightEntries, ListsFrom}
-use Rattle.format.specs.Laws.Bounds.{few-square}
 use Rattle.format.specs.Laws.Frame.{fine-names}
 use Rattle.format.specs.Laws.Sides.{side-list}
 use Rattle.record.specs.Filling.{Block, RankRows, SideFilled}
 use Rattle.record.specs.Laws.Ranks.{place-lt, ranked-names, names-ranked}
 
--- a table of ranks of which no cell is filled has no row
-pub rows-start : {n : ℕ} {l ranks : List ℕ} → Block n l → ranks ≡ replicate rankCells unranked → RankRows n l 0 ranks
-rows-start {n} B e =
-    let f = few-square (B .few) in
-    record {
-      done = λ u. absurd (omega arith);
-      blank = λ {i} {v} z u w. rw e (getD-replicate rankCells (i * n + v) unranked 0 (omega (arith, cell-lt u w)));
-      room = rw e (omega (arith, length-replicate {A = ℕ} rankCells unranked));
-    }
+-- a table of ranks whose cells have the mark has no row filled
+pub rows-start : {n : ℕ} {l ranks : List ℕ} → n * n ≤ length ranks → ((p : ℕ) → p < n * n → vec ranks p ≡ unranked) → RankRows n l 0 ranks
+rows-start {n} h e =
+    record { done = λ u. absurd (omega arith); blank = λ {i} {v} z u w. e (i * n + v) (cell-lt u w); room = h }
 
 module _ {b l : List ℕ} {n from : ℕ} (E : RightEntries b n) (h : from ≤ n) (L : ListsFrom b n from n l) where
   -- the bytes of the lists are n lists with entries below n

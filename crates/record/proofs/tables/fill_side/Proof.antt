@@ -2,7 +2,6 @@
 use native.Mathlib.Omega.{arith}
 use borrow.Author.Needs.{needs}
 use Rattle.format.specs.Laws.Bounds.{few-square}
-use Rattle.record.specs.Laws.Sides.{rows-start}
 use Rattle.record.proofs.tables.fill_side.Statement.{statement}
 use Rattle.record.proofs.tables.fill_side.Tie as tie
 
@@ -13,7 +12,8 @@ fill-lists-requires c κs =
 
 rank-lists-requires : tie.Need-rank-lists-requires
 rank-lists-requires c κs =
-    let s : tie.Start = search in (s .pre .0, rows-start (s .pre .0) (s .pre .1 .blank))
+    let s : tie.Start = search in
+    let B = s .pre .0 in (B, omega (arith, few-square (B .few), s .pre .1 .ranks-long))
 
 pub fill-side-spec : {M : Type 1} → statement M
 fill-side-spec = tie.close (tie.spec fill-lists-requires rank-lists-requires (λ c. search needs))

@@ -7,7 +7,7 @@ use borrow.Author.Tests.{not-true, not-false}
 use Rattle.format.specs.declared.framed.Framed.{Framed}
 use Rattle.format.specs.Frame.{FramedBook, RightEntries}
 use Rattle.record.specs.Laws.Sides.{side-block, side-refused}
-use Rattle.record.specs.Laws.Recorded.{unfilled-long, filled-long, recorded-refused, recorded-fine}
+use Rattle.record.specs.Laws.Recorded.{filled-long, recorded-refused, recorded-fine}
 use Rattle.record.proofs.tables.load.Statement.{statement}
 use Rattle.record.proofs.tables.load.Tie as tie
 
@@ -35,7 +35,7 @@ returns c =
     let f : tie.After-framed = search in
     let t : tie.After-enum-told = search in
     let s = start f in
-    recorded-refused (unfilled-long (s .pre .0)) (unfilled-long (s .pre .1)) (c .without-tables .ensures .0) (c .without-tables .ensures .1)
+    recorded-refused (s .pre .0) (s .pre .1) (c .without-tables .ensures .0) (c .without-tables .ensures .1)
     (subst (λ (r : Framed). FramedBook (s .args .book .now) r) (t .enum-told .given .1) (f .framed .ensures))
 
 -- the frame is right, and the entries are below n
@@ -57,7 +57,7 @@ returns-2 c =
     let d : tie.After-fill-side = search in
     let m = mens d in
     let s : tie.Start = search in
-    recorded-refused (filled-long (d .fill-side .ensures)) (unfilled-long (s .pre .1)) (c .without-tables2 .ensures .0) (c .without-tables2 .ensures .1)
+    recorded-refused (filled-long (d .fill-side .ensures)) (s .pre .1) (c .without-tables2 .ensures .0) (c .without-tables2 .ensures .1)
     (side-refused (right (people m)) (omega arith) (m .lists-from .ensures) (d .fill-side .ensures) (not-true _ (c .before .if1 .taken)))
 
 lists-from-requires-2 : tie.Need-lists-from-requires-2
