@@ -1,6 +1,6 @@
 // The state in which walks begin, at a stable matching.
+use crate::numbers::number_at;
 use tables::list_at;
-use tables::wide;
 ghost use mathlib.Core.Path.{_≡_};
 ghost use Prim.Native.Nat.{ℕ, _≤_, _<_};
 ghost use lib.ListN.{length};
@@ -20,8 +20,8 @@ fn hold(n: usize, mlists: &[u16], p: &[u16], ends: &[u16], held: &mut [u16], s: 
     requires { ⌜ (vec (now p) s < vec (now ends) s → vec (now p) s < lenIn n n (now mlists) s) ⌝ }
     ensures { λ _. ⌜ NotesHolder (vec₀ p s) (vec₀ ends s) s (atIn n (now₀ mlists) s (vec₀ p s)) (vec₀ held) (vec₁ held) ⌝ }
 {
-    let place = wide(p[s]);
-    if place < wide(ends[s]) {
+    let place = number_at(p, s);
+    if place < number_at(ends, s) {
         held[list_at(mlists, n, s, place)] = s as u16;
     }
 }

@@ -5,6 +5,7 @@
 mod beginning;
 mod elimination;
 mod frames;
+mod numbers;
 mod search;
 mod walks;
 
@@ -12,6 +13,7 @@ pub use beginning::begin;
 pub use elimination::Move;
 pub use elimination::move_man;
 pub use frames::Spot;
+pub use numbers::number_at;
 pub use search::Cycle;
 pub use search::find;
 pub use walks::resume;

@@ -1,8 +1,8 @@
 // Where a walk goes on, or a new one begins.
 use crate::frames::Spot;
 use crate::frames::enter;
+use crate::numbers::number_at;
 use tables::entry;
-use tables::wide;
 ghost use mathlib.Core.Path.{_≡_};
 ghost use Prim.Native.Nat.{_*_, _≤_, _<_};
 ghost use lib.ListN.{length};
@@ -22,7 +22,7 @@ fn first_going(n: usize, ends: &[u16], p: &[u16], from: usize) -> usize
 {
     let mut s = from;
     while s < n {
-        if wide(p[s]) < wide(ends[s]) {
+        if number_at(p, s) < number_at(ends, s) {
             return s;
         }
         s += 1;
@@ -72,6 +72,6 @@ pub fn resume(
         start: s,
         depth: 1,
         man: s,
-        place: wide(p[s]) + 1,
+        place: number_at(p, s) + 1,
     }
 }

@@ -14,11 +14,10 @@ use Rattle.stable_theory.specs.Rotations.Rotation.{Next}
 use Rattle.stable_theory.specs.Rotations.NextLaws.{Onward, moved-next, follower-moved}
 use Rattle.tables.specs.Lists.{Tables, market, Sound, lenIn, atIn}
 use Rattle.tables.specs.Laws.Rows.{stored-entry}
-use Rattle.rotation_path.specs.declared.frames.Spot.{Spot}
-use Rattle.rotation_path.specs.Path.{Top, FrameKept, Entered}
-use Rattle.rotation_path.specs.Walks.{Stands, Walking}
-use Rattle.rotation_path.specs.Search.{Willing, unsearched, Looked}
-use Rattle.rotation_path.specs.Laws.Path.{Reached, top-man, top-going, path-kept, frame-kept, path-room, path-enter, top-enter, path-closes}
+use Rattle.rotation_path.specs.Path.{Path, Top, Closes, FrameKept, Entered}
+use Rattle.rotation_path.specs.Walks.{Stands}
+use Rattle.rotation_path.specs.Search.{Willing, Searching, unsearched}
+use Rattle.rotation_path.specs.Laws.Path.{Reached, path-room, top-man, top-going, path-kept, frame-kept, path-enter, top-enter, path-closes}
 
 module _ {I : Market} (M : Proper I) {p t held : ℕ → ℕ} (S : Stands I p t held) {i : ℕ} (u : i < I .proposers .size) (go : p i < receiver-optimal I i) where
   -- all are at or before their ends
@@ -94,83 +93,66 @@ module _ {K : Tables} (T : Sound K) {i k : ℕ} (u : i < K .a) (l : k < lenIn (K
     pub unwilling-read : s ≤ r → Willing (market K) t i k → ⊥
     unwilling-read h y = let z = rw (← ew) at y in omega (arith, rank-read)
 
--- A step of a walk: the last man's list, at the place from which his next woman is looked for
-module _ {I : Market} (M : Proper I) (short : (i : ℕ) → i < I .proposers .size → I .proposers .len i ≤ I .proposers .size)
-    {p t held frames on : ℕ → ℕ} (S : Stands I p t held) {at : Spot} (A : Walking I p frames on at) (some : 0 < at .depth) where
-  top : Top I p frames (at .depth) (at .man) (at .place)
-  top = A .top some
+module _ {I : Market} (M : Proper I) {p t held frames on : ℕ → ℕ} (S : Stands I p t held) {c i k : ℕ} (A : Searching I p frames on c i k) where
+  number : suc (c - 1) ≡ c
+  number = omega (arith, A .some)
 
-  last-number : suc (at .depth - 1) ≡ at .depth
-  last-number = omega arith
+  -- the last man is not at his end, so place k is on his list
+  pub last-man : i < I .proposers .size
+  last-man = top-man (A .path) (A .top) number
 
-  pub last-man : at .man < I .proposers .size
-  last-man = top-man (A .path) top last-number
+  last-going : p i < receiver-optimal I i
+  last-going = top-going (A .path) (A .top) number
 
-  last-going : p (at .man) < receiver-optimal I (at .man)
-  last-going = top-going (A .path) top last-number
-
-  pub last-listed : at .place < I .proposers .len (at .man)
-  last-listed = top-listed M S last-man last-going top
+  pub last-listed : k < I .proposers .len i
+  last-listed = top-listed M S last-man last-going (A .top)
 
   -- she there is not willing: the next one is to be looked at
-  pub looked-on :
-      (Willing I t (at .man) (at .place) → ⊥) → {next : Spot} → next .depth ≡ at .depth → next .man ≡ at .man → next .place ≡ at .place + 1 →
-      Looked I p at frames on next 0
-  unfolding unsearched
-  looked-on unwilling {next} ed em ep =
-      record {
-        some = omega arith;
-        path = rw ed (A .path);
-        walking = λ z. record { path = rw ed (A .path); top = λ h. rw (ed, em, ep) (top-on M S last-man last-going top unwilling) };
-        less = λ z. rw (ed, ep) (omega (arith, last-listed, short (at .man) last-man));
-        closes = λ z. absurd (omega arith);
-      }
+  pub searching-on : (Willing I t i k → ⊥) → Searching I p frames on c i (k + 1)
+  searching-on unwilling = record { path = A .path; some = A .some; top = top-on M S last-man last-going (A .top) unwilling }
 
-  -- she is willing, and is written into the last frame
-  module _ (yes : Willing I t (at .man) (at .place)) {w r : ℕ} (ew : w ≡ I .proposers .at (at .man) (at .place)) (er : r ≡ I .receivers .place w (at .man))
-      {kept : ℕ → ℕ} (K : FrameKept (at .depth - 1) (at .place) w r frames kept) {j : ℕ} (ej : j ≡ held w) where
-    next-woman : Next I p (at .man) w (held w)
-    next-woman = found-next M S last-man last-going top yes ew
-
-    -- her man is the follower of the last man
-    pub follower : Reached I p kept (at .depth) j
+  -- she is willing, and is written into the last frame; j is her man
+  module _ (yes : Willing I t i k) {w r : ℕ} (ew : w ≡ I .proposers .at i k) (er : r ≡ I .receivers .place w i)
+      {kept : ℕ → ℕ} (K : FrameKept (c - 1) k w r frames kept) {j : ℕ} (ej : j ≡ held w) where
+    -- he is the follower of the last man
+    pub follower : Reached I p kept c j
     follower =
+        let n = found-next M S last-man last-going (A .top) yes ew in
         rw ej (record {
-          man = next-woman .held .pair .proposer;
-          going = found-going M S last-man last-going top yes ew;
-          frame = λ {x} e. let q : x ≡ at .depth - 1 = omega arith in
-              rw q (frame-kept (A .path) last-number K (top .last last-number) next-woman (found-at M S last-man last-going top yes ew) er);
+          man = n .held .pair .proposer;
+          going = found-going M S last-man last-going (A .top) yes ew;
+          frame = λ {x} e. let q : x ≡ c - 1 = omega arith in
+              rw q (frame-kept (A .path) number K (A .top .last number) n (found-at M S last-man last-going (A .top) yes ew) er);
         })
 
+    path-now : Path I p kept on c
+    path-now = path-kept (A .path) number K
+
     -- he is on the path, which has come back to him
-    pub looked-closed : {mark : ℕ} → mark ≡ on j → (mark ≡ 0 → ⊥) → Looked I p at kept on at mark
-    looked-closed e ne =
-        let Q = path-kept (A .path) last-number K in
-        record {
-          some = some;
-          path = Q;
-          walking = λ z. absurd (ne z);
-          less = λ z. absurd (ne z);
-          closes = λ z. path-closes Q follower (sym e ∙ z);
-        }
+    pub searching-closed : {mark : ℕ} → mark ≡ on j → (mark ≡ 0 → ⊥) → Path I p kept on c × Closes I p kept (mark - 1) c
+    searching-closed e ne = (path-now, path-closes path-now follower (omega arith))
 
     -- he is not, and is entered
-    module _ (off : on j ≡ 0) where
-      pub room : at .depth < I .proposers .size
-      room = path-room (A .path) (follower .man) off
+    module _ {mark : ℕ} (em : mark ≡ on j) (off : mark ≡ 0) where
+      pub room : c < I .proposers .size
+      room = path-room (A .path) (follower .man) (sym em ∙ off)
 
-      pub looked-entered :
-          {frames′ on′ : ℕ → ℕ} → Entered (at .depth + 1) j kept frames′ on on′ → {next : Spot} → next .depth ≡ at .depth + 1 → next .man ≡ j →
-          next .place ≡ p j + 1 → Looked I p at frames′ on′ next 0
-      unfolding unsearched
-      looked-entered E {next} ed em ep =
-          let Q = path-kept (A .path) last-number K in
-          let n = I .proposers .size in
-          let e : suc (n - (at .depth + 1)) ≡ n - at .depth = omega (arith, room) in
+      pub searching-entered : {frames′ on′ : ℕ → ℕ} → Entered (c + 1) j kept frames′ on on′ → {l : ℕ} → l ≡ p j → Searching I p frames′ on′ (c + 1) j (l + 1)
+      searching-entered E el =
+          let z = sym em ∙ off in
           record {
+            path = path-enter path-now follower z E;
             some = omega arith;
-            path = rw ed (path-enter Q follower off E);
-            walking = λ z. record { path = rw ed (path-enter Q follower off E); top = λ h. rw (ed, em) (top-enter Q follower off E ep) };
-            less = λ z. rw ed (omega (arith, suc-mul (n - (at .depth + 1)) (suc n), ap (λ (x : ℕ). x * suc n) e));
-            closes = λ z. absurd (omega arith);
+            top = top-enter path-now follower z E (ap (λ (x : ℕ). x + 1) el);
           }
+
+-- a woman more is looked at, or a man more is on the path
+pub unsearched-on : {n k : ℕ} (c : ℕ) → k < n → unsearched n c (k + 1) < unsearched n c k
+unfolding unsearched
+unsearched-on c l = omega arith
+
+pub unsearched-entered : {n c : ℕ} (k l : ℕ) → c < n → unsearched n (c + 1) l < unsearched n c k
+unfolding unsearched
+unsearched-entered {n} {c} k l h =
+    let e : suc (n - (c + 1)) ≡ n - c = omega arith in
+    omega (arith, suc-mul (n - (c + 1)) (suc n), ap (λ (x : ℕ). x * suc n) e)

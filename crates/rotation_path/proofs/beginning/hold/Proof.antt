@@ -17,9 +17,9 @@ start c = search
 
 going : (c : tie.Then1) → vec (now (start c .args .p)) (start c .args .s) < vec (now (start c .args .ends)) (start c .args .s)
 going c =
-    let place : tie.After-wide = search in
-    let end : tie.After-wide2 = search in
-    omega (arith, place .wide .ensures .0, end .wide2 .ensures .0, c .if1 .taken)
+    let place : tie.After-number-at = search in
+    let end : tie.After-number-at2 = search in
+    omega (arith, place .number-at .ensures .0, end .number-at2 .ensures .0, c .if1 .taken)
 
 listed : (c : tie.Then1) → vec (now (start c .args .p)) (start c .args .s) < lenIn (start c .args .n) (start c .args .n) (now (start c .args .mlists)) (start c .args .s)
 listed c = start c .pre .1 .1 (going c)
@@ -34,14 +34,14 @@ woman :
     c .list-at .result ≡ atIn (s .args .n) (now (s .args .mlists)) (s .args .s) (vec (now (s .args .p)) (s .args .s))
 woman c =
     let s = read c in
-    let place : tie.After-wide = search in
-    c .list-at .ensures .0 ∙ ap (atIn (s .args .n) (now (s .args .mlists)) (s .args .s)) (place .wide .ensures .0)
+    let place : tie.After-number-at = search in
+    c .list-at .ensures .0 ∙ ap (atIn (s .args .n) (now (s .args .mlists)) (s .args .s)) (place .number-at .ensures .0)
 
 list-at-requires : tie.Need-list-at-requires
 list-at-requires c κs =
-    let place : tie.After-wide = search in
+    let place : tie.After-number-at = search in
     let t : tie.Then1 = search in
-    stored-index (start t .pre .0 .0) (start t .pre .0 .1) (omega (arith, place .wide .ensures .0, listed t))
+    stored-index (start t .pre .0 .0) (start t .pre .0 .1) (omega (arith, place .number-at .ensures .0, listed t))
 
 slice-write-held : tie.Need-slice-write-held
 slice-write-held c =
@@ -60,11 +60,7 @@ pub hold-spec : {M : Type 1} → statement M
 hold-spec =
     tie.close
     (tie.spec
-    (λ c. search needs)
-    (λ c. search needs)
     (λ c κs. search needs)
-    (λ c. search needs)
-    (λ c. search needs)
     (λ c κs. search needs)
     (λ c. search needs)
     list-at-requires

@@ -21,18 +21,18 @@ loop-holds c = λ l u v w. absurd (omega arith)
 returns : tie.Need-returns Inv-loop μ-loop
 returns c =
     let a : tie.At-loop Inv-loop μ-loop = search in
-    let x : tie.After-wide Inv-loop μ-loop = search in
-    let y : tie.After-wide2 Inv-loop μ-loop = search in
-    record { none = a .loop .inv; here = λ u. omega (arith, x .wide .ensures .0, y .wide2 .ensures .0, c .if1 .taken) }
+    let x : tie.After-number-at Inv-loop μ-loop = search in
+    let y : tie.After-number-at2 Inv-loop μ-loop = search in
+    record { none = a .loop .inv; here = λ u. omega (arith, x .number-at .ensures .0, y .number-at2 .ensures .0, c .if1 .taken) }
 
 loop-again : tie.Need-loop-again Inv-loop μ-loop
 loop-again c =
     let a : tie.At-loop Inv-loop μ-loop = search in
-    let x : tie.After-wide Inv-loop μ-loop = search in
-    let y : tie.After-wide2 Inv-loop μ-loop = search in
+    let x : tie.After-number-at Inv-loop μ-loop = search in
+    let y : tie.After-number-at2 Inv-loop μ-loop = search in
     let e : tie.Else1 Inv-loop μ-loop = search in
     λ l u v w. split (a .loop .s) l
-    (λ h. let q : l ≡ a .loop .s = omega arith in rw q (omega (arith, x .wide .ensures .0, y .wide2 .ensures .0, e .if1 .left)))
+    (λ h. let q : l ≡ a .loop .s = omega arith in rw q (omega (arith, x .number-at .ensures .0, y .number-at2 .ensures .0, e .if1 .left)))
     (λ h. a .loop .inv l u h w)
 
 returns-2 : tie.Need-returns-2 Inv-loop μ-loop
@@ -45,11 +45,7 @@ first-going-spec =
     Inv-loop
     μ-loop
     loop-holds
-    (λ c. search needs)
-    (λ c. search needs)
     (λ c κs. search needs)
-    (λ c. search needs)
-    (λ c. search needs)
     (λ c κs. search needs)
     returns
     (λ c. search needs)

@@ -31,7 +31,7 @@ returns-3 c =
     let u : tie.Else2 = search in
     let n : tie.After-enter = search in
     resumed-first (s .pre .1 .1 .0) (s .pre .1 .1 .1) (t .if1 .left) (s .pre .0 .2) (g .first-going .ensures) (u .if2 .left) (n .enter .ensures) refl refl refl
-    (ap (λ x. x + 1) (c .wide .ensures .0))
+    (ap (λ x. x + 1) (c .number-at .ensures .0))
 
 pub resume-spec : {M : Type 1} → statement M
 resume-spec =
@@ -46,8 +46,6 @@ resume-spec =
     (λ c κs. search needs)
     returns-2
     (λ c κs. search needs)
-    (λ c. search needs)
-    (λ c. search needs)
     (λ c κs. search needs)
     (λ c. search needs)
     (λ c. search needs)
