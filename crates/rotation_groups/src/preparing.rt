@@ -1,6 +1,6 @@
 // What is noted before the first rotation is eliminated.
 use crate::choice::replace;
-use tables::wide;
+use rotation_path::number_at;
 ghost use mathlib.Core.Path.{_≡_};
 ghost use Prim.Native.Nat.{_≤_, _<_};
 ghost use lib.ListN.{length};
@@ -22,7 +22,7 @@ pub fn prepare(
 {
     let mut s = 0;
     while s < n {
-        due[s] = replace(wide(given[s]), wide(p[s]), 0) as u16;
+        due[s] = replace(number_at(given, s), number_at(p, s), 0) as u16;
         down[s] = n as u16;
         up[s] = n as u16;
         s += 1;

@@ -1,7 +1,7 @@
 -- `replace` computes its choice: each return is one of its two values. Assumes nothing.
 use borrow.Author.Tests.{eq-eqb, ne-eqb}
-use Rattle.rotation_pass.proofs.choice.replace.Statement.{statement}
-use Rattle.rotation_pass.proofs.choice.replace.Tie as tie
+use Rattle.rotation_groups.proofs.choice.replace.Statement.{statement}
+use Rattle.rotation_groups.proofs.choice.replace.Tie as tie
 
 returns : tie.Need-returns
 returns c = rw (eq-eqb _ _ (c .if1 .taken))

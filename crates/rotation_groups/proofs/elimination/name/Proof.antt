@@ -3,9 +3,9 @@ use native.Mathlib.Omega.{arith}
 use denote.Ref.{now}
 use borrow.Author.Needs.{needs}
 use Rattle.laws.specs.Changed.{changed-set}
-use Rattle.rotation_pass.specs.Laws.Shares.{replaced-lt}
-use Rattle.rotation_pass.proofs.elimination.name.Statement.{statement}
-use Rattle.rotation_pass.proofs.elimination.name.Tie as tie
+use Rattle.rotation_groups.specs.Laws.Preparing.{replaced-lt}
+use Rattle.rotation_groups.proofs.elimination.name.Statement.{statement}
+use Rattle.rotation_groups.proofs.elimination.name.Tie as tie
 
 cast-names : tie.Need-cast-names
 cast-names c =

@@ -5,9 +5,9 @@ use native.Mathlib.Omega.{arith}
 use denote.Ref.{now}
 use borrow.Author.Needs.{needs}
 use Rattle.laws.specs.Changed.{changed-set}
-use Rattle.rotation_pass.specs.Shares.{waits, leaves, comes}
-use Rattle.rotation_pass.proofs.elimination.note.Statement.{statement}
-use Rattle.rotation_pass.proofs.elimination.note.Tie as tie
+use Rattle.rotation_groups.specs.Notes.{waits, leaves, comes}
+use Rattle.rotation_groups.proofs.elimination.note.Statement.{statement}
+use Rattle.rotation_groups.proofs.elimination.note.Tie as tie
 
 returns : tie.Need-returns
 returns c =
