@@ -1,77 +1,75 @@
--- A pass from its beginning to its end: the men below a bound are at their ends. Assumes nothing.
-use Prim.Native.Nat.{ℕ, _+_, _≤_, _<_}
+-- A pass from its beginning to its end. Assumes nothing.
+use Prim.Native.Nat.{ℕ, _+_, _<_}
 use mathlib.Core.Path.{_≡_, sym, _∙_}
 use mathlib.Core.List.{List}
-use native.Mathlib.Omega.{arith}
-use Rattle.laws.specs.Choice.{same}
 use Rattle.laws.specs.Values.{vec}
 use Rattle.stable_theory.specs.Stable.Market.{Market, Proper}
-use Rattle.stable_theory.specs.Stable.Vector.{Before}
-use Rattle.stable_theory.specs.Stable.Holding.{Same}
-use Rattle.stable_theory.specs.Least.Optimal.{proposer-optimal, receiver-optimal, receiver-optimal-last}
+use Rattle.stable_theory.specs.Stable.Vector.{Stable}
+use Rattle.stable_theory.specs.Stable.Holding.{Same, stable-same}
+use Rattle.stable_theory.specs.Least.Optimal.{proposer-optimal, proposer-optimal-stable, receiver-optimal}
 use Rattle.stable_theory.specs.Rotations.Numbering.{total}
-use Rattle.stable_theory.specs.Rotations.Canonical.{rotations-complete}
-use Rattle.stable_theory.specs.Rotations.PassedCount.{passed-none, passed-every}
 use Rattle.stable_theory.specs.Repairs.Repair.{IsDown, IsUp}
+use Rattle.rotation_path.specs.declared.frames.Spot.{Spot}
+use Rattle.rotation_path.specs.Path.{Path, Closes}
+use Rattle.rotation_path.specs.Walks.{Holders, Resumed, Progress}
+use Rattle.rotation_path.specs.Elimination.{Separate, Eliminated}
+use Rattle.rotation_path.specs.Laws.Progress.{progress-start, progress-on, progress-end, progress-all}
+use Rattle.rotation_groups.specs.Notes.{Prepared, NotedCycle}
 use Rattle.rotation_pass.specs.Groups.{Grouped}
-use Rattle.rotation_pass.specs.Pass.{Slices, slicesOf, SlicesSized}
+use Rattle.rotation_pass.specs.Pass.{Start, Slices, slicesOf, SlicesSized}
 use Rattle.rotation_pass.specs.Shares.{Shares}
-use Rattle.rotation_pass.specs.Walks.{Stands, Passing}
-use Rattle.rotation_pass.specs.Laws.Path.{path-none}
-use Rattle.rotation_pass.specs.Laws.Shares.{grouped-down, grouped-up}
+use Rattle.rotation_pass.specs.Laws.Shares.{shares-start, grouped-down, grouped-up}
+use Rattle.rotation_pass.specs.Laws.Moves.{shares-moved}
 
--- What the loop knows: the men below `start` are at their ends
-pub record Ended (I : Market) (g ends : ℕ → ℕ) (W : Slices) (start found : ℕ) : Type 0 where
-  pub upto : start ≤ I .proposers .size
-  pub passing : Passing I g W 0 found
-  pub ended : (s : ℕ) → s < start → vec (W .p) s ≡ ends s
+-- What the loop knows
+pub record Passing (I : Market) (g : ℕ → ℕ) (W : Slices) (at : Spot) (found : ℕ) : Type 0 where
+  pub sized : SlicesSized (I .proposers .size) W
+  pub progress : Progress I (vec (W .p)) (vec (W .t)) (vec (W .held)) (vec (W .frames)) (vec (W .on)) at found
+  pub shares : Shares I g (vec (W .p)) (vec (W .due)) (vec (W .down)) (vec (W .up))
 
--- it begins at the men's best matching
-pub ended-start :
+-- the men's best matching is stable
+pub start-stable : {I : Market} → Proper I → {p t g ends : ℕ → ℕ} → Start I p t g ends → Stable I p
+start-stable {I} M {p} S = stable-same (proposer-optimal I) p (λ i u. sym (S .best i u)) (proposer-optimal-stable M)
+
+-- a pass begins there
+pub passing-start :
     {I : Market} → Proper I → {g ends : ℕ → ℕ} {p t held due on frames down up : List ℕ} → SlicesSized (I .proposers .size) (slicesOf p t held due on frames down up) →
-    Same I (vec p) (proposer-optimal I) → Stands I (vec p) (vec t) (vec held) → Shares I g (vec p) (vec due) (vec down) (vec up) →
-    ((m : ℕ) → m < I .proposers .size → vec on m ≡ 0) → Ended I g ends (slicesOf p t held due on frames down up) 0 0
-ended-start M {frames = frames} Z best S H off =
+    Start I (vec p) (vec t) g ends → Holders I (vec p) (vec held) → {at : Spot} → Resumed I (vec p) (vec frames) (vec on) at →
+    Prepared (I .proposers .size) g (vec p) (I .proposers .size) (vec due) (vec down) (vec up) → Passing I g (slicesOf p t held due on frames down up) at 0
+passing-start M Z S H R P =
     record {
-      upto = omega arith;
-      passing = record {
-        sized = Z;
-        stands = S;
-        shares = H;
-        path = path-none (vec frames) off;
-        counted = sym (passed-none M (rotations-complete M) best);
-      };
-      ended = λ s u. absurd (omega arith);
+      sized = Z;
+      progress = progress-start M (S .best) (record { stable = start-stable M S; sides = S .sides; holders = H }) R;
+      shares = shares-start M (S .stable) (S .best) P;
     }
 
-module _ {I : Market} (M : Proper I) {g ends : ℕ → ℕ} (e : Same I ends (receiver-optimal I)) {W : Slices} {start found : ℕ} (E : Ended I g ends W start found) where
-  -- one man more is at his end, and the others stay there
-  pub ended-on :
-      start < I .proposers .size → {X : Slices} {more : ℕ} → Passing I g X 0 more → Before I (vec (W .p)) (vec (X .p)) → vec (X .p) start ≡ ends start →
-      Ended I g ends X (start + 1) more
-  ended-on u {X} A le q =
+module _ {I : Market} (M : Proper I) {g : ℕ → ℕ} {p t held due on frames down up : List ℕ} {at : Spot} {found : ℕ}
+    (A : Passing I g (slicesOf p t held due on frames down up) at found) where
+  -- a rotation is found and eliminated: `kept` and `marks` have the path where it is found
+  pub passing-on :
+      {kept marks : ℕ → ℕ} {low c : ℕ} → Path I (vec p) kept marks c → Closes I (vec p) kept low c → Separate (I .proposers .size) kept low c →
+      ((i : ℕ) → i < I .proposers .size → I .proposers .len i < 65536) → {p′ t′ held′ due′ on′ frames′ down′ up′ : List ℕ} {off : ℕ → ℕ} {next : Spot} →
+      Eliminated kept low c (vec p) (vec t) (vec held) marks (vec p′) (vec t′) (vec held′) off →
+      NotedCycle (I .proposers .size) kept low c (vec p) (vec due) (vec down) (vec up) (vec p′) (vec due′) (vec down′) (vec up′) →
+      SlicesSized (I .proposers .size) (slicesOf p′ t′ held′ due′ on′ frames′ down′ up′) → Resumed I (vec p′) (vec frames′) (vec on′) next →
+      Passing I g (slicesOf p′ t′ held′ due′ on′ frames′ down′ up′) next (found + 1)
+  passing-on Q K P short E N Z R =
       record {
-        upto = omega arith;
-        passing = A;
-        ended = λ s v. same s start (λ z. rw z q)
-            (λ ne. let w : s < I .proposers .size = omega arith in
-            omega (arith, E .ended s (omega arith), le s w, e s w, receiver-optimal-last M (A .stands .stable) s w));
+        sized = Z;
+        progress = progress-on M (A .progress) Q K E R;
+        shares = shares-moved M (A .progress .stands) Q K P short (A .shares) N;
       }
 
-  -- all are
-  module _ (h : I .proposers .size ≤ start) where
-    pub all-ended : Same I (vec (W .p)) ends
-    all-ended s u = E .ended s (omega arith)
+  -- nobody is on the path: all men are at their ends, all rotations are found, and who answers for whom is settled
+  module _ (z : at .depth ≡ 0) where
+    pub passed-count : found ≡ total I
+    passed-count = progress-all M (A .progress) z
 
-    worst : Same I (vec (W .p)) (receiver-optimal I)
-    worst s u = all-ended s u ∙ e s u
+    pub passed-down : Grouped (I .proposers .size) (IsDown I g) (vec down)
+    passed-down = grouped-down M (A .shares) (progress-end M (A .progress) z)
 
-    -- so all rotations are passed, and who answers for whom is settled
-    pub ended-count : found ≡ total I
-    ended-count = E .passing .counted ∙ passed-every M (rotations-complete M) worst
+    pub passed-up : Grouped (I .proposers .size) (IsUp I g) (vec up)
+    passed-up = grouped-up M (A .shares) (progress-end M (A .progress) z)
 
-    pub ended-down : Grouped (I .proposers .size) (IsDown I g) (vec (W .down))
-    ended-down = grouped-down M (E .passing .shares) worst
-
-    pub ended-up : Grouped (I .proposers .size) (IsUp I g) (vec (W .up))
-    ended-up = grouped-up M (E .passing .shares) worst
+    pub passed-same : {ends : ℕ → ℕ} → Same I ends (receiver-optimal I) → Same I (vec p) ends
+    passed-same e s u = progress-end M (A .progress) z s u ∙ sym (e s u)

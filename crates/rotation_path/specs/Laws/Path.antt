@@ -26,15 +26,18 @@ pub record Reached (I : Market) (p frames : ℕ → ℕ) (c j : ℕ) : Type 0 wh
   pub frame : {x : ℕ} → suc x ≡ c → Frame I p frames x j
 
 -- no man is on the path
-pub path-none : {I : Market} {p : ℕ → ℕ} (frames : ℕ → ℕ) {on : ℕ → ℕ} → ((m : ℕ) → m < I .proposers .size → on m ≡ 0) → Path I p frames on 0
-path-none frames z =
+pub left-none : {I : Market} {p : ℕ → ℕ} (frames : ℕ → ℕ) {on : ℕ → ℕ} → ((m : ℕ) → m < I .proposers .size → on m ≡ 0) → PathLeft I p frames on 0
+left-none frames z =
     record {
-      short = omega arith;
-      proposer = λ u. absurd (omega arith);
-      going = λ u. absurd (omega arith);
-      marked = λ u. absurd (omega arith);
-      only = λ {m} u e. absurd (omega (arith, z m u));
-      follows = λ u. absurd (omega arith);
+      path = record {
+        short = omega arith;
+        proposer = λ u. absurd (omega arith);
+        going = λ u. absurd (omega arith);
+        marked = λ u. absurd (omega arith);
+        only = λ {m} u e. absurd (omega (arith, z m u));
+        follows = λ u. absurd (omega arith);
+      };
+      top = λ e. absurd (omega arith);
     }
 
 module _ {I : Market} {p : ℕ → ℕ} {frames on : ℕ → ℕ} {c : ℕ} (Q : Path I p frames on c) where
