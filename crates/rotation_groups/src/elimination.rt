@@ -1,13 +1,13 @@
 // The elimination of the rotation at the end of a path, and what is noted of the men whom it moves.
 use crate::choice::replace;
-use rotation_path::move_man;
+use rotation_walks::move_man;
 use tables::wide;
 ghost use mathlib.Core.Path.{_≡_};
 ghost use Prim.Native.Nat.{_*_, _≤_, _<_};
 ghost use lib.ListN.{length};
 ghost use Rattle.laws.specs.Moment.{vec₀, vec₁};
 ghost use Rattle.laws.specs.Values.{vec};
-ghost use Rattle.rotation_path.specs.Elimination.{Separate, Eliminated};
+ghost use Rattle.rotation_walks.specs.Elimination.{Separate, Eliminated};
 ghost use Rattle.rotation_groups.specs.Notes.{Named, Noted, NotedCycle};
 
 // Who answers for the men whom a rotation moves from their given places, and for those whom it moves to them, or n.

@@ -1,9 +1,8 @@
 // A pass from the men's best matching to the women's.
 use rotation_groups::eliminate;
 use rotation_groups::prepare;
-use rotation_path::begin;
-use rotation_path::find;
-use rotation_path::resume;
+use rotation_walks::begin;
+use rotation_walks::find_next;
 ghost use mathlib.Core.Path.{_≡_};
 ghost use Prim.Native.Nat.{_≤_, _<_};
 ghost use lib.ListN.{length};
@@ -47,13 +46,30 @@ pub fn pass<'a>(
     begin(n, mlists, wlists, ends, p, held, on);
     prepare(n, given, p, due, down, up);
     let mut found = 0;
-    let mut at = resume(n, mlists, wlists, ends, p, on, frames, 0, 0);
-    while 0 < at.depth {
-        let cycle = find(n, mlists, wlists, wranks, p, t, held, on, frames, at);
-        let low = cycle.low;
+    let mut low = 0;
+    let mut start = 0;
+    loop {
+        let cycle = find_next(
+            n,
+            mlists,
+            wlists,
+            wranks,
+            ends,
+            p,
+            t,
+            held,
+            on,
+            frames,
+            low,
+            start,
+        );
+        let first = cycle.first;
+        if first == 0 {
+            return found;
+        }
+        low = first - 1;
+        start = cycle.start;
         eliminate(n, frames, low, cycle.depth, p, t, held, on, due, down, up);
-        at = resume(n, mlists, wlists, ends, p, on, frames, low, at.start);
         found += 1;
     }
-    found
 }

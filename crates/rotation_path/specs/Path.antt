@@ -6,6 +6,7 @@ use Rattle.laws.specs.Changed.{Changed}
 use Rattle.stable_theory.specs.Stable.Market.{Market}
 use Rattle.stable_theory.specs.Least.Optimal.{receiver-optimal}
 use Rattle.stable_theory.specs.Rotations.Rotation.{Next}
+use Rattle.rotation_path.specs.declared.frames.Spot.{Spot}
 
 -- The four numbers of frame x: a row of a table
 abbrev pub manAt : (ℕ → ℕ) → ℕ → ℕ
@@ -42,6 +43,11 @@ pub record Top (I : Market) (p : ℕ → ℕ) (frames : ℕ → ℕ) (c i k : �
   pub below : p i < k
   pub ahead : {w j : ℕ} → Next I p i w j → k ≤ I .proposers .place i w
 
+-- A walk: its path, and where the next woman of its last man is looked for
+pub record Walking (I : Market) (p : ℕ → ℕ) (frames on : ℕ → ℕ) (at : Spot) : Type 0 where
+  pub path : Path I p frames on (at .depth)
+  pub top : 0 < at .depth → Top I p frames (at .depth) (at .man) (at .place)
+
 -- The path has come back to frame `low`: the last man's next woman is held by the man there
 pub record Closes (I : Market) (p : ℕ → ℕ) (frames : ℕ → ℕ) (low c : ℕ) : Type 0 where
   pub some : low < c
@@ -59,8 +65,3 @@ pub record Entered (c j : ℕ) (before after on marks : ℕ → ℕ) : Type 0 wh
   pub man : {x : ℕ} → suc x ≡ c → manAt after x ≡ j
   pub rest : (v : ℕ) → v + 4 < c * 4 → after v ≡ before v
   pub mark : Changed j c on marks
-
--- What an elimination leaves of a path: c men, and the next woman of the last is at the place in his frame or after
-pub record PathLeft (I : Market) (p : ℕ → ℕ) (frames on : ℕ → ℕ) (c : ℕ) : Type 0 where
-  pub path : Path I p frames on c
-  pub top : {x : ℕ} → suc x ≡ c → Top I p frames c (manAt frames x) (placeAt frames x)

@@ -26,7 +26,7 @@ pub(crate) fn keep(frames: &mut [u16], x: usize, place: usize, woman: usize, ran
 }
 
 // Enters man j as the last of `depth` men on the path.
-pub(crate) fn enter(frames: &mut [u16], on: &mut [u16], depth: usize, j: usize)
+pub fn enter(frames: &mut [u16], on: &mut [u16], depth: usize, j: usize)
     requires { ⌜ (0 < depth) × (depth * 4 ≤ length (now frames)) × (j < length (now on)) ⌝ }
     requires { ⌜ (j < 65536) × (depth < 65536) ⌝ }
     ensures { λ _. ⌜ Entered depth j (vec₀ frames) (vec₁ frames) (vec₀ on) (vec₁ on) ⌝ }

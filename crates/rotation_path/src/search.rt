@@ -6,17 +6,19 @@ use crate::numbers::number_at;
 use tables::entry;
 use tables::list_at;
 ghost use mathlib.Core.Path.{_≡_};
-ghost use Prim.Native.Nat.{_*_, _<_};
+ghost use Prim.Native.Nat.{_-_, _*_, _<_};
 ghost use lib.ListN.{length};
 ghost use Rattle.laws.specs.Moment.{vec₀, vec₁};
 ghost use Rattle.laws.specs.Values.{vec};
 ghost use Rattle.tables.specs.Lists.{Tables, tables, market, Sound};
-ghost use Rattle.rotation_path.specs.Path.{Path, Closes};
-ghost use Rattle.rotation_path.specs.Walks.{Stands, Walking};
+ghost use Rattle.rotation_path.specs.Path.{Path, Walking, Closes};
+ghost use Rattle.rotation_path.specs.Stands.{Stands};
 
-// The men of a rotation are those of the frames from `low` up to `depth`.
+// The men of a rotation are the last of `depth` men on a path, from the one on whose number, counted from 1, is `first`;
+// where there is no rotation, that is 0. The path began with man `start`.
 pub struct Cycle {
-    pub low: usize,
+    pub start: usize,
+    pub first: usize,
     pub depth: usize,
 }
 
@@ -43,7 +45,8 @@ pub fn find(
     requires { λ K. ⌜ Stands (market K) (vec (now p)) (vec (now t)) (vec (now held)) ⌝ }
     requires { λ K. ⌜ Walking (market K) (vec (now p)) (vec (now frames)) (vec (now on)) at × (0 < at .depth) ⌝ }
     ensures { λ K r. ⌜ Path (market K) (vec₀ p) (vec₁ frames) (vec₁ on) (r .depth) ⌝ }
-    ensures { λ K r. ⌜ Closes (market K) (vec₀ p) (vec₁ frames) (r .low) (r .depth) ⌝ }
+    ensures { λ K r. ⌜ (0 < r .first) × Closes (market K) (vec₀ p) (vec₁ frames) (r .first - 1) (r .depth) ⌝ }
+    ensures { λ _ r. ⌜ r .start ≡ at .start ⌝ }
 {
     let mut depth = at.depth;
     let mut man = at.man;
@@ -57,7 +60,8 @@ pub fn find(
             let mark = number_at(on, j);
             if mark != 0 {
                 return Cycle {
-                    low: mark - 1,
+                    start: at.start,
+                    first: mark,
                     depth,
                 };
             }

@@ -9,8 +9,8 @@ use Rattle.laws.specs.Choice.{same}
 use Rattle.laws.specs.Changed.{Changed, changed-set}
 use Rattle.laws.specs.Values.{vec}
 use Rattle.rotation_path.specs.Path.{manAt, placeAt, womanAt}
-use Rattle.rotation_path.specs.Elimination.{ManMoved, Eliminated, Separate}
-use Rattle.rotation_path.specs.Laws.Stores.{StoresSized, stores-sized, eliminated-start, eliminated-on}
+use Rattle.rotation_walks.specs.Elimination.{ManMoved, Eliminated, Separate}
+use Rattle.rotation_walks.specs.Laws.Stores.{StoresSized, stores-sized, eliminated-start, eliminated-on}
 use Rattle.rotation_groups.specs.Notes.{replaced, Named, Noted, waits, leaves, comes, Moves, none, more}
 
 -- a man answers for a man, or n stands for nobody

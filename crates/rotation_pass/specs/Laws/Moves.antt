@@ -4,10 +4,10 @@ use mathlib.Core.Path.{_≡_, refl, sym, _∙_}
 use native.Mathlib.Omega.{arith}
 use Rattle.stable_theory.specs.Stable.Market.{Market, Proper}
 use Rattle.rotation_path.specs.Path.{manAt, placeAt, Path, Closes}
-use Rattle.rotation_path.specs.Walks.{Stands}
-use Rattle.rotation_path.specs.Elimination.{Separate}
+use Rattle.rotation_path.specs.Stands.{Stands}
 use Rattle.rotation_path.specs.Laws.Path.{closes-frame}
-use Rattle.rotation_path.specs.Laws.Elimination.{cycle}
+use Rattle.rotation_walks.specs.Elimination.{Separate}
+use Rattle.rotation_walks.specs.Laws.Elimination.{cycle}
 use Rattle.rotation_groups.specs.Notes.{Moves, none, more, NotedCycle}
 use Rattle.rotation_pass.specs.Shares.{Shares}
 use Rattle.rotation_pass.specs.Laws.Shares.{leading-none}

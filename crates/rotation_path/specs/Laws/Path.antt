@@ -8,7 +8,7 @@ use Rattle.stable_theory.specs.Stable.Market.{Market}
 use Rattle.stable_theory.specs.Least.Optimal.{receiver-optimal}
 use Rattle.stable_theory.specs.Rotations.Rotation.{Next}
 use Rattle.stable_theory.specs.Rotations.FollowerCycle.{FollowerCycle}
-use Rattle.rotation_path.specs.Path.{manAt, womanAt, Frame, Path, Top, Closes, FrameKept, Entered, PathLeft}
+use Rattle.rotation_path.specs.Path.{manAt, womanAt, Frame, Path, Top, Closes, FrameKept, Entered}
 
 -- a frame is known by its numbers
 frame-same : {I : Market} {p : ℕ → ℕ} {before after : ℕ → ℕ} {x j : ℕ} → ((v : ℕ) → v < suc x * 4 → after v ≡ before v) → Frame I p before x j → Frame I p after x j
@@ -24,21 +24,6 @@ pub record Reached (I : Market) (p frames : ℕ → ℕ) (c j : ℕ) : Type 0 wh
   pub man : j < I .proposers .size
   pub going : p j < receiver-optimal I j
   pub frame : {x : ℕ} → suc x ≡ c → Frame I p frames x j
-
--- no man is on the path
-pub left-none : {I : Market} {p : ℕ → ℕ} (frames : ℕ → ℕ) {on : ℕ → ℕ} → ((m : ℕ) → m < I .proposers .size → on m ≡ 0) → PathLeft I p frames on 0
-left-none frames z =
-    record {
-      path = record {
-        short = omega arith;
-        proposer = λ u. absurd (omega arith);
-        going = λ u. absurd (omega arith);
-        marked = λ u. absurd (omega arith);
-        only = λ {m} u e. absurd (omega (arith, z m u));
-        follows = λ u. absurd (omega arith);
-      };
-      top = λ e. absurd (omega arith);
-    }
 
 module _ {I : Market} {p : ℕ → ℕ} {frames on : ℕ → ℕ} {c : ℕ} (Q : Path I p frames on c) where
   -- where somebody is not on the path, there is room for him

@@ -15,7 +15,7 @@ use Rattle.stable_theory.specs.Rotations.NextLaws.{Onward, moved-next, follower
 use Rattle.tables.specs.Lists.{Tables, market, Sound, lenIn, atIn}
 use Rattle.tables.specs.Laws.Rows.{stored-entry}
 use Rattle.rotation_path.specs.Path.{Path, Top, Closes, FrameKept, Entered}
-use Rattle.rotation_path.specs.Walks.{Stands}
+use Rattle.rotation_path.specs.Stands.{Stands}
 use Rattle.rotation_path.specs.Search.{Willing, Searching, unsearched}
 use Rattle.rotation_path.specs.Laws.Path.{Reached, path-room, top-man, top-going, path-kept, frame-kept, path-enter, top-enter, path-closes}
 
@@ -129,8 +129,8 @@ module _ {I : Market} (M : Proper I) {p t held frames on : ℕ → ℕ} (S : Sta
     path-now = path-kept (A .path) number K
 
     -- he is on the path, which has come back to him
-    pub searching-closed : {mark : ℕ} → mark ≡ on j → (mark ≡ 0 → ⊥) → Path I p kept on c × Closes I p kept (mark - 1) c
-    searching-closed e ne = (path-now, path-closes path-now follower (omega arith))
+    pub searching-closed : {mark : ℕ} → mark ≡ on j → (mark ≡ 0 → ⊥) → Path I p kept on c × ((0 < mark) × Closes I p kept (mark - 1) c)
+    searching-closed e ne = (path-now, (omega arith, path-closes path-now follower (omega arith)))
 
     -- he is not, and is entered
     module _ {mark : ℕ} (em : mark ≡ on j) (off : mark ≡ 0) where

@@ -20,11 +20,11 @@ use Rattle.rotation_path.proofs.search.find.Statement.{statement}
 use Rattle.rotation_path.proofs.search.find.Tie as tie
 
 abbrev Inv-loop : tie.InvT-loop
-Inv-loop n mlists wlists wranks p t held on₀ frames₀ depth₀ man₀ place₀ on frames depth man place =
+Inv-loop n mlists wlists wranks p t held on₀ frames₀ at depth₀ man₀ place₀ on frames depth man place =
     (length on ≡ n) × (length frames ≡ n * 4) × Searching (marketOf n n mlists wlists) (vec p) (vec frames) (vec on) depth man place
 
 abbrev μ-loop : tie.MeasureT-loop
-μ-loop n mlists wlists wranks p t held on₀ frames₀ depth₀ man₀ place₀ on frames depth man place = unsearched n depth place
+μ-loop n mlists wlists wranks p t held on₀ frames₀ at depth₀ man₀ place₀ on frames depth man place = unsearched n depth place
 
 -- from each place to the one before it that the proof names
 abbrev start : tie.At-loop Inv-loop μ-loop → tie.Start Inv-loop μ-loop
@@ -152,10 +152,6 @@ number-at-requires-3 c κs =
     let j : tie.After-number-at2 Inv-loop μ-loop = search in
     omega (arith, reached j .man, turn j .loop .inv .0)
 
-sub-t27 : tie.Need-sub-t27 Inv-loop μ-loop
-sub-t27 c =
-    omega arith
-
 same-length : tie.Need-same-length Inv-loop μ-loop
 same-length c =
     let a : tie.At-loop Inv-loop μ-loop = search in a .loop .inv .0 ∙ sym (start a .pre .1 .1 .0 .0)
@@ -176,9 +172,10 @@ returns c =
     let w = read r in
     let a = state w in
     let s = start a in
-    searching-closed (s .pre .0 .0 .proper) (s .pre .1 .1 .1 .0) (a .loop .inv .2) (willing b (taken k .if1 .taken)) (w .list-at .ensures .0)
+    let (path, closed) = searching-closed (s .pre .0 .0 .proper) (s .pre .1 .1 .1 .0) (a .loop .inv .2) (willing b (taken k .if1 .taken)) (w .list-at .ensures .0)
     (rank-read (s .pre .0 .0) (man a) (listed a) (w .list-at .ensures .0) (r .entry .ensures .0)) (k .keep .ensures) (j .number-at2 .ensures .0)
-    (m .number-at3 .ensures .0) (c .if2 .taken)
+    (m .number-at3 .ensures .0) (c .if2 .taken) in
+    (path, (closed, refl))
 
 add-depth : tie.Need-add-depth Inv-loop μ-loop
 add-depth c =
@@ -256,7 +253,6 @@ find-spec =
     keep-requires
     number-at-requires-2
     number-at-requires-3
-    sub-t27
     same-length
     same-length-2
     returns

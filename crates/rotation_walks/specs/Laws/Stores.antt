@@ -6,8 +6,8 @@ use native.Mathlib.Omega.{arith}
 use lib.ListN.{length, length-set}
 use Rattle.laws.specs.RangeStores.{range-start, range-on}
 use Rattle.laws.specs.Values.{vec}
 use Rattle.rotation_path.specs.Path.{manAt, placeAt, womanAt, rankAt}
-use Rattle.rotation_path.specs.Elimination.{ManMoved, Eliminated, Separate}
+use Rattle.rotation_walks.specs.Elimination.{ManMoved, Eliminated, Separate}
 
 -- no frame is eliminated
 pub eliminated-start : (frames : ℕ → ℕ) (c : ℕ) (p t held on : ℕ → ℕ) → Eliminated frames c c p t held on p t held on

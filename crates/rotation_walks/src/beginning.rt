@@ -1,5 +1,5 @@
 // The state in which walks begin, at a stable matching.
-use crate::numbers::number_at;
+use rotation_path::number_at;
 use tables::list_at;
 ghost use mathlib.Core.Path.{_≡_};
 ghost use Prim.Native.Nat.{ℕ, _≤_, _<_};
@@ -11,7 +11,8 @@ ghost use Rattle.stable_theory.specs.Stable.Vector.{Stable};
 ghost use Rattle.stable_theory.specs.Stable.Holding.{Same};
 ghost use Rattle.stable_theory.specs.Least.Optimal.{receiver-optimal};
 ghost use Rattle.tables.specs.Lists.{marketOf, Stored, lenIn, atIn};
-ghost use Rattle.rotation_path.specs.Walks.{Holders, NotesHolder};
+ghost use Rattle.rotation_path.specs.Stands.{Holders};
+ghost use Rattle.rotation_walks.specs.Walks.{NotesHolder};
 
 // Notes that man s holds the woman at his place, unless he is at his end.
 fn hold(n: usize, mlists: &[u16], p: &[u16], ends: &[u16], held: &mut [u16], s: usize)

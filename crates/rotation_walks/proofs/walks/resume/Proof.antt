@@ -4,9 +4,9 @@ use Prim.Native.Nat.{suc, _+_, _-_}
 use mathlib.Core.Path.{_≡_, refl, ap}
 use native.Mathlib.Omega.{arith}
 use borrow.Author.Needs.{needs}
-use Rattle.rotation_path.specs.Laws.Progress.{resumed-last, resumed-none, resumed-first}
-use Rattle.rotation_path.proofs.walks.resume.Statement.{statement}
-use Rattle.rotation_path.proofs.walks.resume.Tie as tie
+use Rattle.rotation_walks.specs.Laws.Resuming.{resumed-last, resumed-none, resumed-first}
+use Rattle.rotation_walks.proofs.walks.resume.Statement.{statement}
+use Rattle.rotation_walks.proofs.walks.resume.Tie as tie
 
 returns : tie.Need-returns
 returns c =

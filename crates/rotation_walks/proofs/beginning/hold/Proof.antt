@@ -9,8 +9,8 @@ use Rattle.laws.specs.Values.{vec}
 use Rattle.laws.specs.Changed.{changed-set}
 use Rattle.tables.specs.Lists.{lenIn, atIn}
 use Rattle.tables.specs.Laws.Rows.{stored-index, stored-entry}
-use Rattle.rotation_path.proofs.beginning.hold.Statement.{statement}
-use Rattle.rotation_path.proofs.beginning.hold.Tie as tie
+use Rattle.rotation_walks.proofs.beginning.hold.Statement.{statement}
+use Rattle.rotation_walks.proofs.beginning.hold.Tie as tie
 
 abbrev start : tie.Then1 → tie.Start
 start c = search

@@ -3,8 +3,8 @@ use mathlib.Core.Path.{refl, ap, ap₂}
 use denote.Ref.{now}
 use lib.ListN.{set}
 use borrow.Author.Needs.{needs}
-use Rattle.rotation_path.proofs.elimination.move_man.Statement.{statement}
-use Rattle.rotation_path.proofs.elimination.move_man.Tie as tie
+use Rattle.rotation_walks.proofs.elimination.move_man.Statement.{statement}
+use Rattle.rotation_walks.proofs.elimination.move_man.Tie as tie
 
 returns : tie.Need-returns
 returns c =

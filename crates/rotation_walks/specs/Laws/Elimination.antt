@@ -20,10 +20,11 @@ use Rattle.stable_theory.specs.Rotations.Numbering.{total, rotation}
 use Rattle.stable_theory.specs.Rotations.Canonical.{rotations-complete}
 use Rattle.stable_theory.specs.Rotations.PassedCount.{passedCount, passed-one}
 use Rattle.stable_theory.specs.Rotations.RotationCount.{sum-rises}
-use Rattle.rotation_path.specs.Path.{manAt, placeAt, womanAt, Path, Closes, PathLeft}
-use Rattle.rotation_path.specs.Walks.{Stands, left}
-use Rattle.rotation_path.specs.Elimination.{Eliminated, Separate}
+use Rattle.rotation_path.specs.Path.{manAt, placeAt, womanAt, Path, Closes}
+use Rattle.rotation_path.specs.Stands.{Stands}
 use Rattle.rotation_path.specs.Laws.Path.{closes-cycle, closes-frame}
+use Rattle.rotation_walks.specs.Walks.{PathLeft, left}
+use Rattle.rotation_walks.specs.Elimination.{Eliminated, Separate}
 
 module _ {I : Market} (M : Proper I) {p t held : ℕ → ℕ} (S : Stands I p t held) {frames on : ℕ → ℕ} {low c : ℕ} (Q : Path I p frames on c) (K : Closes I p frames low c) where
   -- the rotation

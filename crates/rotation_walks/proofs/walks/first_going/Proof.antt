@@ -6,8 +6,8 @@ use native.Mathlib.Omega.{arith}
 use borrow.Author.Needs.{needs}
 use Rattle.laws.specs.Choice.{split}
 use Rattle.laws.specs.Values.{vec}
-use Rattle.rotation_path.proofs.walks.first_going.Statement.{statement}
-use Rattle.rotation_path.proofs.walks.first_going.Tie as tie
+use Rattle.rotation_walks.proofs.walks.first_going.Statement.{statement}
+use Rattle.rotation_walks.proofs.walks.first_going.Tie as tie
 
 abbrev Inv-loop : tie.InvT-loop
 Inv-loop n ends p from s₀ s = (l : ℕ) → from ≤ l → l < s → l < n → vec ends l ≤ vec p l

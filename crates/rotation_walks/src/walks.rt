@@ -1,7 +1,9 @@
-// Where a walk goes on, or a new one begins.
-use crate::frames::Spot;
-use crate::frames::enter;
-use crate::numbers::number_at;
+// Where a walk goes on, or a new one begins, and the rotation that it finds.
+use rotation_path::Cycle;
+use rotation_path::Spot;
+use rotation_path::enter;
+use rotation_path::find;
+use rotation_path::number_at;
 use tables::entry;
 ghost use mathlib.Core.Path.{_≡_};
 ghost use Prim.Native.Nat.{_*_, _≤_, _<_};
@@ -11,9 +13,9 @@ ghost use Rattle.laws.specs.Values.{vec};
 ghost use Rattle.stable_theory.specs.Stable.Market.{Market};
 ghost use Rattle.stable_theory.specs.Stable.Holding.{Same};
 ghost use Rattle.stable_theory.specs.Least.Optimal.{receiver-optimal};
-ghost use Rattle.tables.specs.Lists.{marketOf};
-ghost use Rattle.rotation_path.specs.Path.{PathLeft};
-ghost use Rattle.rotation_path.specs.Walks.{EndedBelow, Resumed, FirstGoing};
+ghost use Rattle.tables.specs.Lists.{Tables, tables, market, marketOf, Sound};
+ghost use Rattle.rotation_path.specs.Stands.{Stands};
+ghost use Rattle.rotation_walks.specs.Walks.{PathLeft, EndedBelow, FirstGoing, Resumed, FoundNext};
 
 // The first man from a number on who is not at his end, or n or more.
 fn first_going(n: usize, ends: &[u16], p: &[u16], from: usize) -> usize
@@ -32,7 +34,7 @@ fn first_going(n: usize, ends: &[u16], p: &[u16], from: usize) -> usize
 
 // The spot at the last of the `depth` men who are left on the path. Where there is none, the first man from `start` on
 // who is not at his end is entered; the depth is 0 where all are at their ends.
-pub fn resume(
+fn resume(
     n: usize,
     mlists: &[u16],
     wlists: &[u16],
@@ -74,4 +76,42 @@ pub fn resume(
         man: s,
         place: number_at(p, s) + 1,
     }
+}
+
+// The next rotation: the walk goes on from the `left` men who are left on its path, which began with man `start`, or a
+// new one begins. There is none where all men are at their ends.
+pub fn find_next(
+    n: usize,
+    mlists: &[u16],
+    wlists: &[u16],
+    wranks: &[u16],
+    ends: &[u16],
+    p: &[u16],
+    t: &[u16],
+    held: &[u16],
+    on: &mut [u16],
+    frames: &mut [u16],
+    left: usize,
+    start: usize,
+) -> Cycle
+    ghost { Tables }
+    requires { λ K. ⌜ tables n n mlists wlists wranks ≡ K ⌝ }
+    requires { λ K. ⌜ Sound K × (n < 65536) ⌝ }
+    requires { λ K. ⌜ (n ≤ length (now ends)) × Same (market K) (vec (now ends)) (receiver-optimal (market K)) ⌝ }
+    requires { λ _. ⌜ (length (now p) ≡ n) × (length (now t) ≡ n) × (length (now held) ≡ n) ⌝ }
+    requires { λ _. ⌜ (length (now on) ≡ n) × (length (now frames) ≡ n * 4) ⌝ }
+    requires { λ K. ⌜ Stands (market K) (vec (now p)) (vec (now t)) (vec (now held)) ⌝ }
+    requires { λ K. ⌜ PathLeft (market K) (vec (now p)) (vec (now frames)) (vec (now on)) left ⌝ }
+    requires { λ K. ⌜ EndedBelow (market K) (vec (now p)) start ⌝ }
+    ensures { λ K r. ⌜ FoundNext (market K) (vec₀ p) (vec₁ frames) (vec₁ on) r ⌝ }
+{
+    let at = resume(n, mlists, wlists, ends, p, on, frames, left, start);
+    if at.depth == 0 {
+        return Cycle {
+            start: at.start,
+            first: 0,
+            depth: 0,
+        };
+    }
+    find(n, mlists, wlists, wranks, p, t, held, on, frames, at)
 }

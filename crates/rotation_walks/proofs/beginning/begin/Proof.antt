@@ -6,9 +6,9 @@ use native.Mathlib.Omega.{arith}
 use borrow.Author.Needs.{needs}
 use Rattle.laws.specs.Values.{vec}
 use Rattle.tables.specs.Lists.{marketOf}
-use Rattle.rotation_path.specs.Laws.Beginning.{Begun, begun-start, begun-placed, begun-on, begun-holders}
-use Rattle.rotation_path.proofs.beginning.begin.Statement.{statement}
-use Rattle.rotation_path.proofs.beginning.begin.Tie as tie
+use Rattle.rotation_walks.specs.Laws.Beginning.{Begun, begun-start, begun-placed, begun-on, begun-holders}
+use Rattle.rotation_walks.proofs.beginning.begin.Statement.{statement}
+use Rattle.rotation_walks.proofs.beginning.begin.Tie as tie
 
 abbrev Inv-loop : tie.InvT-loop
 Inv-loop n mlists wlists ends p held₀ on₀ s₀ held on s = Begun (marketOf n n mlists wlists) (vec ends) (vec p) held on s

@@ -5,8 +5,8 @@ ghost use Prim.Native.Nat.{_+_, _*_, _<_};
 ghost use lib.ListN.{length};
 ghost use Rattle.laws.specs.Moment.{now₀, now₁, vec₀};
 ghost use Rattle.laws.specs.Values.{vec};
 ghost use Rattle.rotation_path.specs.Path.{manAt, placeAt, womanAt};
-ghost use Rattle.rotation_path.specs.Elimination.{ManMoved};
+ghost use Rattle.rotation_walks.specs.Elimination.{ManMoved};
 
 // A man, and the place to which he is moved.
 pub struct Move {

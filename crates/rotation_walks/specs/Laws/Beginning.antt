@@ -11,7 +11,8 @@ use Rattle.stable_theory.specs.Stable.Market.{Market, Proper}
 use Rattle.stable_theory.specs.Stable.Vector.{Holds, Stable}
 use Rattle.stable_theory.specs.Stable.Holding.{Same, hold-at, held-at, holder-unique}
 use Rattle.stable_theory.specs.Least.Optimal.{receiver-optimal, receiver-optimal-stable}
-use Rattle.rotation_path.specs.Walks.{Holders, NotesHolder}
+use Rattle.rotation_path.specs.Stands.{Holders}
+use Rattle.rotation_walks.specs.Walks.{NotesHolder}
 
 -- What the loop knows: all is noted of the men below s
 pub record Begun (I : Market) (ends p : ℕ → ℕ) (held on : List ℕ) (s : ℕ) : Type 0 where
