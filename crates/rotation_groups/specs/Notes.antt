@@ -28,7 +28,8 @@ pub data Noted (n m k : ℕ) (due down up : ℕ → ℕ) (dlead ulead : ℕ) (du
       (due m ≡ 0 → ⊥) → due m ≤ k → Changed m 0 due due′ → ((l : ℕ) → down′ l ≡ down l) → Named n ulead m up up′ ulead′ →
       dlead′ ≡ dlead → Noted n m k due down up dlead ulead due′ down′ up′ dlead′ ulead′
 
--- Of each man below s, of n: he is due at his place given, or at 0 where he is there, and nobody answers for him
+-- Of each man below s: he is due at his given place, or at 0 where he is there, and nobody, for whom n stands, answers
+-- for him
 pub record Prepared (n : ℕ) (given p : ℕ → ℕ) (s : ℕ) (due down up : ℕ → ℕ) : Type 0 where
   pub dues : (l : ℕ) → l < s → due l ≡ replaced (given l) (p l) 0
   pub downs : (l : ℕ) → l < s → down l ≡ n

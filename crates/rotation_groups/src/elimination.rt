@@ -3,7 +3,7 @@ use crate::choice::replace;
 use rotation_walks::move_man;
 use tables::wide;
 ghost use mathlib.Core.Path.{_≡_};
-ghost use Prim.Native.Nat.{_*_, _≤_, _<_};
+ghost use Prim.Native.Nat.{_*_, _<_};
 ghost use lib.ListN.{length};
 ghost use Rattle.laws.specs.Moment.{vec₀, vec₁};
 ghost use Rattle.laws.specs.Values.{vec};
@@ -61,7 +61,8 @@ fn note(
     }
 }
 
-// Eliminates the rotation whose men are those of the frames from `low` up to `depth`: each is put with his next woman.
+// Eliminates the rotation whose men are those of the frames from `low` up to `depth`: each is put with his next woman,
+// and that is noted.
 pub fn eliminate(
     n: usize,
     frames: &[u16],
@@ -85,10 +86,12 @@ pub fn eliminate(
 {
     let mut leads = Leads { down: n, up: n };
     let mut x = depth;
-    while low < x {
+    loop {
         x -= 1;
         let moved = move_man(frames, x, p, t, held, on);
-        let m = moved.man;
-        leads = note(n, due, down, up, leads, m, moved.place);
+        leads = note(n, due, down, up, leads, moved.man, moved.place);
+        if x == low {
+            return;
+        }
     }
 }

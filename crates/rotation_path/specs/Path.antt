@@ -1,5 +1,5 @@
--- A path: men each of whom has the next one for his follower. A frame of four numbers stands for each: the
--- man, the place of his next woman, she, and his rank with her. Assumes nothing.
+-- A path: men each of whom has the next one for his follower. A frame of four numbers stands for each: the man, the
+-- place of his next woman, she, and his rank with her. Assumes nothing.
 use Prim.Native.Nat.{ℕ, suc, _+_, _*_, _≤_, _<_}
 use mathlib.Core.Path.{_≡_}
 use Rattle.laws.specs.Changed.{Changed}

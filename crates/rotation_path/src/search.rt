@@ -14,17 +14,17 @@ ghost use Rattle.tables.specs.Lists.{Tables, tables, market, Sound};
 ghost use Rattle.rotation_path.specs.Path.{Path, Walking, Closes};
 ghost use Rattle.rotation_path.specs.Stands.{Stands};
 
-// The men of a rotation are the last of `depth` men on a path, from the one on whose number, counted from 1, is `first`;
-// where there is no rotation, that is 0. The path began with man `start`.
+// The men of a rotation are the last of `depth` men on a path, from the one on whose number, counted from 1, is
+// `first`; where there is no rotation, that is 0. The path began with man `start`.
 pub struct Cycle {
     pub start: usize,
     pub first: usize,
     pub depth: usize,
 }
 
-// Goes on from a path that is not empty until the next woman of its last man is held by a man on it. A turn looks at one
-// woman: where she is willing, the man whom she has is entered or closes the path; the woman below, on the list of the
-// last man, follows.
+// Goes on from a path that is not empty until the next woman of its last man is held by a man on it. A turn looks at
+// one woman: where she is willing, the man whom she has is entered or closes the path; the woman below, on the list of
+// the last man, follows.
 pub fn find(
     n: usize,
     mlists: &[u16],

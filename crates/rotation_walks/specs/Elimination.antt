@@ -20,7 +20,7 @@ pub record Eliminated (frames : ℕ → ℕ) (low c : ℕ) (p t held on p′ t�
   pub holders : RangeStores low c (womanAt frames) (manAt frames) held held′
   pub marks : RangeStores low c (manAt frames) (λ x. 0) on on′
 
--- The frames from `low` up to c have n different men and women at most
+-- The frames from `low` up to c have different men, of n, and different women, of n
 pub record Separate (n : ℕ) (frames : ℕ → ℕ) (low c : ℕ) : Type 0 where
   pub some : low < c
   pub short : c ≤ n

@@ -1,5 +1,5 @@
--- Walks along the followers, from each man in turn until he is at his end: where one goes on, what it finds, and how far
--- they have come. Assumes nothing.
+-- Walks along the followers, from each man in turn until he is at his end: where one goes on, what it finds, and how
+-- far they have come. Assumes nothing.
 use Prim.Native.Nat.{ℕ, suc, _-_, _≤_, _<_}
 use mathlib.Core.Path.{_≡_}
 use Rattle.laws.specs.Sum.{sum}

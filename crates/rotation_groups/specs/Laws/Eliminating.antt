@@ -1,24 +1,22 @@
 -- The elimination of a cycle with its notes, frame by frame from the last down to its first. Assumes nothing.
 use Prim.Native.Nat.{ℕ, suc, _≤_, _<_}
-use mathlib.Core.Path.{_≡_, _∙_, sym}
+use mathlib.Core.Path.{_≡_, _∙_}
 use mathlib.Core.List.{List}
 use native.Mathlib.Omega.{arith}
 use lib.ListN.{length}
-use borrow.Author.Tests.{eq-eqb, ne-eqb}
-use Rattle.laws.specs.Choice.{same}
 use Rattle.laws.specs.Changed.{Changed, changed-set}
 use Rattle.laws.specs.Values.{vec}
 use Rattle.rotation_path.specs.Path.{manAt, placeAt, womanAt}
 use Rattle.rotation_walks.specs.Elimination.{ManMoved, Eliminated, Separate}
 use Rattle.rotation_walks.specs.Laws.Stores.{StoresSized, stores-sized, eliminated-start, eliminated-on}
-use Rattle.rotation_groups.specs.Notes.{replaced, Named, Noted, waits, leaves, comes, Moves, none, more}
+use Rattle.rotation_groups.specs.Notes.{Named, Noted, waits, leaves, comes, Moves, none, more}
+use Rattle.rotation_groups.specs.Laws.Preparing.{replaced-lt}
 
--- a man answers for a man, or n stands for nobody
+-- who answers is a man, or n, which stands for nobody
 named-le : {n lead m lead′ : ℕ} {names names′ : ℕ → ℕ} → Named n lead m names names′ lead′ → m < n → lead ≤ n → lead′ ≤ n
-named-le {n} {lead} {m} N u l =
-    same lead n (λ e. rw (N .is, eq-eqb lead n e) (omega arith)) (λ ne. rw (N .is, ne-eqb lead n ne) l)
+named-le {n} {lead} {m} N u l = omega (arith, N .is, replaced-lt lead n m {k = suc n} (omega arith) (omega arith))
 
--- and so they do once a move is noted
+-- and so it is once a move is noted
 module _ {n m k : ℕ} (u : m < n) {due down up due′ down′ up′ : ℕ → ℕ} {d e d′ e′ : ℕ} (l : d ≤ n) (h : e ≤ n) where
   pub noted-down : Noted n m k due down up d e due′ down′ up′ d′ e′ → d′ ≤ n
   noted-down (waits k x y z a b) = omega arith

@@ -2,6 +2,7 @@
 use Prim.Native.Nat.{ℕ, suc, _+_, _<_}
 use mathlib.Core.Path.{_≡_, sym, _∙_}
 use mathlib.Core.List.{List}
+use lib.ListN.{length}
 use Rattle.laws.specs.Values.{vec}
 use Rattle.stable_theory.specs.Stable.Market.{Market, Proper}
 use Rattle.stable_theory.specs.Stable.Vector.{Stable}
@@ -27,6 +28,23 @@ pub record Passing (I : Market) (g : ℕ → ℕ) (W : Slices) (c start count : 
   pub sized : SlicesSized (I .proposers .size) W
   pub progress : Progress I (vec (W .p)) (vec (W .t)) (vec (W .held)) (vec (W .frames)) (vec (W .on)) c start count
   pub shares : Shares I g (vec (W .p)) (vec (W .due)) (vec (W .down)) (vec (W .up))
+
+-- slices of the same lengths
+pub sized-same :
+    {n : ℕ} {p t held due on frames down up p′ t′ held′ due′ on′ frames′ down′ up′ : List ℕ} → SlicesSized n (slicesOf p t held due on frames down up) →
+    length p′ ≡ length p → length t′ ≡ length t → length held′ ≡ length held → length due′ ≡ length due → length on′ ≡ length on →
+    length frames′ ≡ length frames → length down′ ≡ length down → length up′ ≡ length up → SlicesSized n (slicesOf p′ t′ held′ due′ on′ frames′ down′ up′)
+sized-same Z a b c d e f g h =
+    record {
+      p = a ∙ Z .p;
+      t = b ∙ Z .t;
+      held = c ∙ Z .held;
+      due = d ∙ Z .due;
+      on = e ∙ Z .on;
+      frames = f ∙ Z .frames;
+      down = g ∙ Z .down;
+      up = h ∙ Z .up;
+    }
 
 -- the men's best matching is stable
 pub start-stable : {I : Market} → Proper I → {p t g ends : ℕ → ℕ} → Start I p t g ends → Stable I p
@@ -61,16 +79,10 @@ module _ {I : Market} (M : Proper I) {g : ℕ → ℕ} {p t held due on frames d
         shares = shares-moved M (A .progress .stands) (F .path e) (F .closes e) P short (A .shares) N;
       }
 
-  -- there is none: all men are at their ends, all rotations are found, and who answers for whom is settled
-  module _ {kept marks : ℕ → ℕ} {found : Cycle} (F : FoundNext I (vec p) kept marks found) (z : found .first ≡ 0) where
-    pub passed-count : count ≡ total I
-    passed-count = progress-all M (A .progress) F z
-
-    pub passed-down : Grouped (I .proposers .size) (IsDown I g) (vec down)
-    passed-down = grouped-down M (A .shares) (progress-end M (A .progress) F z)
-
-    pub passed-up : Grouped (I .proposers .size) (IsUp I g) (vec up)
-    passed-up = grouped-up M (A .shares) (progress-end M (A .progress) F z)
-
-    pub passed-same : {ends : ℕ → ℕ} → Same I ends (receiver-optimal I) → Same I (vec p) ends
-    passed-same e s u = progress-end M (A .progress) F z s u ∙ sym (e s u)
+  -- there is none: all rotations are found, who answers for whom is settled, and all men are at their ends
+  pub passed-all :
+      {kept marks : ℕ → ℕ} {found : Cycle} → FoundNext I (vec p) kept marks found → found .first ≡ 0 → {ends : ℕ → ℕ} → Same I ends (receiver-optimal I) →
+      (count ≡ total I) × (Grouped (I .proposers .size) (IsDown I g) (vec down) × (Grouped (I .proposers .size) (IsUp I g) (vec up) × Same I (vec p) ends))
+  passed-all F z e =
+      let ended = progress-end M (A .progress) F z in
+      (progress-all M (A .progress) F z, (grouped-down M (A .shares) ended, (grouped-up M (A .shares) ended, λ s u. ended s u ∙ sym (e s u))))

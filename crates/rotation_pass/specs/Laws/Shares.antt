@@ -12,7 +12,7 @@ use Rattle.stable_theory.specs.Stable.Holding.{Same}
 use Rattle.stable_theory.specs.Least.Optimal.{proposer-optimal, receiver-optimal, proposer-optimal-first, receiver-optimal-last}
 use Rattle.stable_theory.specs.Repairs.Repair.{IsDown, IsUp}
 use Rattle.rotation_pass.specs.Groups.{Led, NotLed, Grouped}
-use Rattle.rotation_groups.specs.Notes.{replaced, Named, Prepared}
+use Rattle.rotation_groups.specs.Notes.{Named, Prepared}
 use Rattle.rotation_pass.specs.Shares.{Names, Shares}
 
 -- The one who answers for those who were moved with him, or n where nobody was yet: With says who they are

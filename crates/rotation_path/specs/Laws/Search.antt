@@ -16,7 +16,7 @@ use Rattle.tables.specs.Lists.{Tables, market, Sound, lenIn, atIn}
 use Rattle.tables.specs.Laws.Rows.{stored-entry}
 use Rattle.rotation_path.specs.Path.{Path, Top, Closes, FrameKept, Entered}
 use Rattle.rotation_path.specs.Stands.{Stands}
-use Rattle.rotation_path.specs.Search.{Willing, Searching, unsearched}
+use Rattle.rotation_path.specs.Search.{Willing, WillingWoman, Searching, unsearched}
 use Rattle.rotation_path.specs.Laws.Path.{Reached, path-room, top-man, top-going, path-kept, frame-kept, path-enter, top-enter, path-closes}
 
 module _ {I : Market} (M : Proper I) {p t held : ℕ → ℕ} (S : Stands I p t held) {i : ℕ} (u : i < I .proposers .size) (go : p i < receiver-optimal I i) where
@@ -53,42 +53,42 @@ module _ {I : Market} (M : Proper I) {p t held : ℕ → ℕ} (S : Stands I p t 
         }
 
     -- where she does, she is his next woman: those before his next woman do not
-    module _ (yes : Willing I t i k) where
+    module _ {w r : ℕ} (N : WillingWoman I t i k w r) where
       found-place : k ≡ I .proposers .place i (onward .receiver)
       found-place =
           let n = onward .next in
+          let yes = N .willing in
           split (I .proposers .place i (onward .receiver)) k (λ g. omega (arith, T .ahead n))
           (λ g. let q = M .proposing .place-at u top-listed in
           let (h, H, b) = n .between (I .proposers .at i k) (accept-at M u top-listed) (omega (arith, T .below)) (omega arith) in
           absurd (omega (arith, S .sides .there H .is)))
 
-      module _ {w : ℕ} (ew : w ≡ I .proposers .at i k) where
-        found-woman : onward .receiver ≡ w
-        found-woman = sym onward-at ∙ ap (I .proposers .at i) (sym found-place) ∙ sym ew
+      found-woman : onward .receiver ≡ w
+      found-woman = sym onward-at ∙ ap (I .proposers .at i) (sym found-place) ∙ sym (N .woman)
 
-        -- and her man is his follower
-        pub found-next : Next I p i w (held w)
-        found-next =
-            let n = onward .next in
-            let h = S .holders .holder (n .held) (follower-moved M (S .stable) (receiver-optimal-stable M) last go n) in
-            rw (← found-woman, h) n
+      -- and her man is his follower
+      pub found-next : Next I p i w (held w)
+      found-next =
+          let n = onward .next in
+          let h = S .holders .holder (n .held) (follower-moved M (S .stable) (receiver-optimal-stable M) last go n) in
+          rw (← found-woman, h) n
 
-        -- who is not at his end, either
-        pub found-going : p (held w) < receiver-optimal I (held w)
-        found-going = follower-moved M (S .stable) (receiver-optimal-stable M) last go found-next
+      -- who is not at his end, either
+      pub found-going : p (held w) < receiver-optimal I (held w)
+      found-going = follower-moved M (S .stable) (receiver-optimal-stable M) last go found-next
 
-        pub found-at : k ≡ I .proposers .place i w
-        found-at = rw (← found-woman) found-place
+      pub found-at : k ≡ I .proposers .place i w
+      found-at = rw (← found-woman) found-place
 
 -- What the code reads at place k of i's list: the woman there, i's rank with her, and her place
 module _ {K : Tables} (T : Sound K) {i k : ℕ} (u : i < K .a) (l : k < lenIn (K .a) (K .b) (K .plists) i) {w r : ℕ} (ew : w ≡ atIn (K .b) (K .plists) i k) (er : r ≡ cell (K .ranks) (K .a) w i) where
-  pub rank-read : r ≡ market K .receivers .place w i
+  rank-read : r ≡ market K .receivers .place w i
   rank-read = er ∙ T .agrees .rank (stored-entry (T .proposers) u l ew) u
 
   -- she prefers him if his rank is above that place
   module _ (t : ℕ → ℕ) {s : ℕ} (es : s ≡ t w) where
-    pub willing-read : r < s → Willing (market K) t i k
-    willing-read h = rw (← ew) (omega (arith, rank-read))
+    pub willing-read : r < s → WillingWoman (market K) t i k w r
+    willing-read h = record { willing = rw (← ew) (omega (arith, rank-read)); woman = ew; rank = rank-read }
 
     pub unwilling-read : s ≤ r → Willing (market K) t i k → ⊥
     unwilling-read h y = let z = rw (← ew) at y in omega (arith, rank-read)
@@ -112,17 +112,16 @@ module _ {I : Market} (M : Proper I) {p t held frames on : ℕ → ℕ} (S : Sta
   searching-on unwilling = record { path = A .path; some = A .some; top = top-on M S last-man last-going (A .top) unwilling }
 
   -- she is willing, and is written into the last frame; j is her man
-  module _ (yes : Willing I t i k) {w r : ℕ} (ew : w ≡ I .proposers .at i k) (er : r ≡ I .receivers .place w i)
-      {kept : ℕ → ℕ} (K : FrameKept (c - 1) k w r frames kept) {j : ℕ} (ej : j ≡ held w) where
+  module _ {w r : ℕ} (N : WillingWoman I t i k w r) {kept : ℕ → ℕ} (K : FrameKept (c - 1) k w r frames kept) {j : ℕ} (ej : j ≡ held w) where
     -- he is the follower of the last man
     pub follower : Reached I p kept c j
     follower =
-        let n = found-next M S last-man last-going (A .top) yes ew in
+        let n = found-next M S last-man last-going (A .top) N in
         rw ej (record {
           man = n .held .pair .proposer;
-          going = found-going M S last-man last-going (A .top) yes ew;
+          going = found-going M S last-man last-going (A .top) N;
           frame = λ {x} e. let q : x ≡ c - 1 = omega arith in
-              rw q (frame-kept (A .path) number K (A .top .last number) n (found-at M S last-man last-going (A .top) yes ew) er);
+              rw q (frame-kept (A .path) number K (A .top .last number) n (found-at M S last-man last-going (A .top) N) (N .rank));
         })
 
     path-now : Path I p kept on c

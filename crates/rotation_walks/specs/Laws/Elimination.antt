@@ -20,7 +20,7 @@ use Rattle.stable_theory.specs.Rotations.Numbering.{total, rotation}
 use Rattle.stable_theory.specs.Rotations.Canonical.{rotations-complete}
 use Rattle.stable_theory.specs.Rotations.PassedCount.{passedCount, passed-one}
 use Rattle.stable_theory.specs.Rotations.RotationCount.{sum-rises}
-use Rattle.rotation_path.specs.Path.{manAt, placeAt, womanAt, Path, Closes}
+use Rattle.rotation_path.specs.Path.{manAt, womanAt, Path, Closes}
 use Rattle.rotation_path.specs.Stands.{Stands}
 use Rattle.rotation_path.specs.Laws.Path.{closes-cycle, closes-frame}
 use Rattle.rotation_walks.specs.Walks.{PathLeft, left}

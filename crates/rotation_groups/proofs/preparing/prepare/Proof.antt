@@ -1,9 +1,9 @@
 -- `prepare` meets its contract. The loop's invariant: it is noted of the men below s. The measure is the number of men
 -- left. Assumes nothing.
 use Prim.Native.Nat.{_-_, _≤_}
-use mathlib.Core.Path.{_≡_, sym, _∙_, ap₂}
+use mathlib.Core.Path.{_≡_, _∙_, ap₂}
 use native.Mathlib.Omega.{arith}
-use lib.ListN.{length, length-set}
+use lib.ListN.{length-set}
 use borrow.Author.Needs.{needs}
 use Rattle.laws.specs.Values.{vec}
 use Rattle.rotation_groups.specs.Notes.{replaced, Prepared}

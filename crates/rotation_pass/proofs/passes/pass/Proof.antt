@@ -1,12 +1,10 @@
--- `pass` meets its contract. The loop's invariant: `found` rotations are eliminated, `low` men are left on the path, which
--- began with man `start`, and what is noted is right for the places now. The measure is the number of places left.
+-- `pass` meets its contract. The loop's invariant: `found` rotations are eliminated, `low` men are left on the path,
+-- which began with man `start`, and what is noted is right for the places now. The measure is the number of places left.
 -- `cycle` says that a rotation is found, and `separate` that its frames have different men and women. Assumes nothing.
-use Prim.Native.Nat.{suc, _+_, _-_, _≤_, _<_}
+use Prim.Native.Nat.{suc, _-_, _≤_}
 use mathlib.Core.Path.{_≡_, refl, sym, _∙_}
 use native.Mathlib.Omega.{arith}
 use native.Mathlib.Nat.{mul-le-mul}
-use denote.Ref.{now}
-use borrow.Author.Needs.{needs}
 use Rattle.laws.specs.Values.{vec}
 use Rattle.tables.specs.Lists.{marketOf}
 use Rattle.rotation_walks.specs.Walks.{left}
@@ -14,7 +12,7 @@ use Rattle.rotation_walks.specs.Elimination.{Separate}
 use Rattle.rotation_walks.specs.Laws.Elimination.{cycle-separate, left-less}
 use Rattle.rotation_walks.specs.Laws.Progress.{progress-few}
 use Rattle.rotation_pass.specs.Pass.{slicesOf}
-use Rattle.rotation_pass.specs.Laws.Passes.{Passing, start-stable, passing-start, passing-on, passed-count, passed-down, passed-up, passed-same}
+use Rattle.rotation_pass.specs.Laws.Passes.{Passing, sized-same, start-stable, passing-start, passing-on, passed-all}
 use Rattle.rotation_pass.proofs.passes.pass.Statement.{statement}
 use Rattle.rotation_pass.proofs.passes.pass.Tie as tie
 
@@ -44,6 +42,9 @@ state c = search
 
 abbrev found : tie.Else1 Inv-loop μ-loop → tie.After-find-next Inv-loop μ-loop
 found c = search
+
+abbrev none : tie.Then1 Inv-loop μ-loop → tie.After-find-next Inv-loop μ-loop
+none c = search
 
 abbrev some : tie.After-eliminate Inv-loop μ-loop → tie.Else1 Inv-loop μ-loop
 some c = search
@@ -83,17 +84,7 @@ loop-holds c =
     let Z = s .pre .1 .0 in
     let B = b .begin .kept .1 .1 .1 .1 .1 in
     let P = q .prepare .kept .1 .1 .1 in
-    passing-start (s .pre .0 .0 .proper)
-    (record {
-      p = Z .p;
-      t = Z .t;
-      held = B .0 ∙ Z .held;
-      due = P .0 ∙ Z .due;
-      on = B .1 .0 ∙ Z .on;
-      frames = Z .frames;
-      down = P .1 .0 ∙ Z .down;
-      up = P .1 .1 .0 ∙ Z .up;
-    })
+    passing-start (s .pre .0 .0 .proper) (sized-same Z refl refl (B .0) (P .0) (B .1 .0) refl (P .1 .0) (P .1 .1 .0))
     (s .pre .1 .1 .1) (b .begin .ensures .0) (b .begin .ensures .1) (q .prepare .ensures)
 
 find-next-requires : tie.Need-find-next-requires Inv-loop μ-loop
@@ -142,28 +133,15 @@ loop-again c =
     let F = f .find-next .kept .1 .1 .1 .1 .1 .1 .1 .1 in
     let K = d .eliminate .kept .1 .1 .1 .1 in
     passing-on (s .pre .0 .0 .proper) (a .loop .inv)
-    (record {
-      p = K .0 ∙ Z .p;
-      t = K .1 .0 ∙ Z .t;
-      held = K .1 .1 .0 ∙ Z .held;
-      due = K .1 .1 .1 .1 .0 ∙ Z .due;
-      on = K .1 .1 .1 .0 ∙ (F .0 ∙ Z .on);
-      frames = F .1 .0 ∙ Z .frames;
-      down = K .1 .1 .1 .1 .1 .0 ∙ Z .down;
-      up = K .1 .1 .1 .1 .1 .1 .0 ∙ Z .up;
-    })
+    (sized-same Z (K .0) (K .1 .0) (K .1 .1 .0) (K .1 .1 .1 .1 .0) (K .1 .1 .1 .0 ∙ F .0) (F .1 .0) (K .1 .1 .1 .1 .1 .0) (K .1 .1 .1 .1 .1 .1 .0))
     (λ i u. omega (arith, s .pre .0 .0 .proposers .short u, s .pre .0 .1)) (f .find-next .ensures) (cycle e) (separate e) (d .eliminate .ensures .0) (d .eliminate .ensures .1)
 
 returns : tie.Need-returns Inv-loop μ-loop
 returns c =
-    let f : tie.After-find-next Inv-loop μ-loop = search in
+    let f = none c in
     let a = state f in
     let s = first a in
-    let M = s .pre .0 .0 .proper in
-    let A = a .loop .inv in
-    let F = f .find-next .ensures in
-    let z = c .if1 .taken in
-    (passed-count M A F z, (passed-down M A F z, (passed-up M A F z, passed-same M A F z (s .pre .1 .1 .1 .worst))))
+    passed-all (s .pre .0 .0 .proper) (a .loop .inv) (f .find-next .ensures) (c .if1 .taken) (s .pre .1 .1 .1 .worst)
 
 pub pass-spec : {M : Type 1} → statement M
 pass-spec =
@@ -175,14 +153,14 @@ pass-spec =
     prepare-requires
     loop-holds
     find-next-requires
-    (λ c. let a : tie.At-loop Inv-loop μ-loop = search in a .loop .inv .sized .p ∙ sym (first a .pre .1 .0 .p))
-    (λ c. let a : tie.At-loop Inv-loop μ-loop = search in a .loop .inv .sized .t ∙ sym (first a .pre .1 .0 .t))
-    (λ c. let a : tie.At-loop Inv-loop μ-loop = search in a .loop .inv .sized .held ∙ sym (first a .pre .1 .0 .held))
-    (λ c. let a : tie.At-loop Inv-loop μ-loop = search in a .loop .inv .sized .due ∙ sym (first a .pre .1 .0 .due))
-    (λ c. let f : tie.After-find-next Inv-loop μ-loop = search in let a = state f in f .find-next .kept .1 .1 .1 .1 .1 .1 .1 .1 .0 ∙ (a .loop .inv .sized .on ∙ sym (first a .pre .1 .0 .on)))
-    (λ c. let f : tie.After-find-next Inv-loop μ-loop = search in let a = state f in f .find-next .kept .1 .1 .1 .1 .1 .1 .1 .1 .1 .0 ∙ (a .loop .inv .sized .frames ∙ sym (first a .pre .1 .0 .frames)))
-    (λ c. let a : tie.At-loop Inv-loop μ-loop = search in a .loop .inv .sized .down ∙ sym (first a .pre .1 .0 .down))
-    (λ c. let a : tie.At-loop Inv-loop μ-loop = search in a .loop .inv .sized .up ∙ sym (first a .pre .1 .0 .up))
+    (λ c. let a = state (none c) in a .loop .inv .sized .p ∙ sym (first a .pre .1 .0 .p))
+    (λ c. let a = state (none c) in a .loop .inv .sized .t ∙ sym (first a .pre .1 .0 .t))
+    (λ c. let a = state (none c) in a .loop .inv .sized .held ∙ sym (first a .pre .1 .0 .held))
+    (λ c. let a = state (none c) in a .loop .inv .sized .due ∙ sym (first a .pre .1 .0 .due))
+    (λ c. let f = none c in let a = state f in f .find-next .kept .1 .1 .1 .1 .1 .1 .1 .1 .0 ∙ (a .loop .inv .sized .on ∙ sym (first a .pre .1 .0 .on)))
+    (λ c. let f = none c in let a = state f in f .find-next .kept .1 .1 .1 .1 .1 .1 .1 .1 .1 .0 ∙ (a .loop .inv .sized .frames ∙ sym (first a .pre .1 .0 .frames)))
+    (λ c. let a = state (none c) in a .loop .inv .sized .down ∙ sym (first a .pre .1 .0 .down))
+    (λ c. let a = state (none c) in a .loop .inv .sized .up ∙ sym (first a .pre .1 .0 .up))
     returns
     (λ c. omega arith)
     eliminate-requires

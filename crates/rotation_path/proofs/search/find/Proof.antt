@@ -1,21 +1,20 @@
 -- `find` meets its contract. The loop's invariant: the path has `depth` men, and the next woman of the last is at
--- `place` or after. The measure falls with each woman looked at. `man` and `listed` say where his list is read,
--- `woman` that the entry read is a woman, `willing` that she is, `reached` who her man is, and `free` that there is room
--- for him. Assumes nothing.
-use Prim.Native.Nat.{ℕ, suc, _+_, _-_, _*_, _<_}
-use mathlib.Core.Path.{_≡_, refl, sym, _∙_, ap}
+-- `place` or after. The measure falls with each woman looked at. `man` and `listed` say where his list is read, `woman`
+-- that the entry read is a woman, `willing` that she is, `reached` who her man is, and `free` that there is room for
+-- him. Assumes nothing.
+use Prim.Native.Nat.{_+_, _*_, _<_}
+use mathlib.Core.Path.{_≡_, refl, sym, _∙_}
 use mathlib.Core.Logic.{⊎-elim}
 use native.Mathlib.Omega.{arith}
 use denote.Ref.{now}
 use lib.ListN.{length}
-use borrow.Author.Needs.{needs}
 use Rattle.laws.specs.Values.{vec}
 use Rattle.stable_theory.specs.Stable.Market.{Market}
 use Rattle.tables.specs.Lists.{lenIn, marketOf}
 use Rattle.tables.specs.Laws.Rows.{stored-index, stored-entry, rank-index}
-use Rattle.rotation_path.specs.Search.{Willing, Searching, unsearched}
+use Rattle.rotation_path.specs.Search.{WillingWoman, Searching, unsearched}
 use Rattle.rotation_path.specs.Laws.Path.{Reached}
-use Rattle.rotation_path.specs.Laws.Search.{rank-read, willing-read, unwilling-read, last-man, last-listed, searching-on, follower, searching-closed, room, searching-entered, unsearched-on, unsearched-entered}
+use Rattle.rotation_path.specs.Laws.Search.{willing-read, unwilling-read, last-man, last-listed, searching-on, follower, searching-closed, room, searching-entered, unsearched-on, unsearched-entered}
 use Rattle.rotation_path.proofs.search.find.Statement.{statement}
 use Rattle.rotation_path.proofs.search.find.Tie as tie
 
@@ -75,7 +74,10 @@ woman c = let a = state c in stored-entry (start a .pre .0 .0 .proposers) (man a
 
 willing :
     (c : tie.After-number-at Inv-loop μ-loop) → ranked c .entry .result < c .number-at .result →
-    let a = state (read (ranked c)) in Willing (market a) (vec (now (start a .args .t))) (a .loop .man) (a .loop .place)
+    let r = ranked c in
+    let w = read r in
+    let a = state w in
+    WillingWoman (market a) (vec (now (start a .args .t))) (a .loop .man) (a .loop .place) (w .list-at .result) (r .entry .result)
 willing c =
     let r = ranked c in
     let w = read r in
@@ -88,26 +90,18 @@ reached :
     let a = turn c in Reached (market a) (vec (now (start a .args .p))) (vec (kept c .keep .last .0)) (a .loop .depth) (c .number-at2 .result)
 reached c =
     let k = kept c in
-    let b = tested (taken k) in
-    let r = ranked b in
-    let w = read r in
-    let a = state w in
+    let a = turn c in
     let s = start a in
-    follower (s .pre .0 .0 .proper) (s .pre .1 .1 .1 .0) (a .loop .inv .2) (willing b (taken k .if1 .taken)) (w .list-at .ensures .0)
-    (rank-read (s .pre .0 .0) (man a) (listed a) (w .list-at .ensures .0) (r .entry .ensures .0)) (k .keep .ensures) (c .number-at2 .ensures .0)
+    follower (s .pre .0 .0 .proper) (s .pre .1 .1 .1 .0) (a .loop .inv .2) (willing (tested (taken k)) (taken k .if1 .taken)) (k .keep .ensures) (c .number-at2 .ensures .0)
 
 free : (c : tie.Else2 Inv-loop μ-loop) → let a = turn (holder (unmarked c)) in a .loop .depth < start a .args .n
 free c =
     let m = unmarked c in
     let j = holder m in
     let k = kept j in
-    let b = tested (taken k) in
-    let r = ranked b in
-    let w = read r in
-    let a = state w in
+    let a = turn j in
     let s = start a in
-    room (s .pre .0 .0 .proper) (s .pre .1 .1 .1 .0) (a .loop .inv .2) (willing b (taken k .if1 .taken)) (w .list-at .ensures .0)
-    (rank-read (s .pre .0 .0) (man a) (listed a) (w .list-at .ensures .0) (r .entry .ensures .0)) (k .keep .ensures) (j .number-at2 .ensures .0)
+    room (s .pre .0 .0 .proper) (s .pre .1 .1 .1 .0) (a .loop .inv .2) (willing (tested (taken k)) (taken k .if1 .taken)) (k .keep .ensures) (j .number-at2 .ensures .0)
     (m .number-at3 .ensures .0) (c .if2 .left)
 
 loop-holds : tie.Need-loop-holds Inv-loop μ-loop
@@ -130,10 +124,6 @@ number-at-requires c κs =
     let w : tie.After-list-at Inv-loop μ-loop = search in
     omega (arith, woman w, start (state w) .pre .1 .0 .1)
 
-sub-keep : tie.Need-sub-keep Inv-loop μ-loop
-sub-keep c =
-    let a : tie.At-loop Inv-loop μ-loop = search in omega (arith, a .loop .inv .2 .some)
-
 keep-requires : tie.Need-keep-requires Inv-loop μ-loop
 keep-requires c κs =
     let r : tie.After-entry Inv-loop μ-loop = search in
@@ -152,10 +142,6 @@ number-at-requires-3 c κs =
     let j : tie.After-number-at2 Inv-loop μ-loop = search in
     omega (arith, reached j .man, turn j .loop .inv .0)
 
-same-length : tie.Need-same-length Inv-loop μ-loop
-same-length c =
-    let a : tie.At-loop Inv-loop μ-loop = search in a .loop .inv .0 ∙ sym (start a .pre .1 .1 .0 .0)
-
 same-length-2 : tie.Need-same-length-2 Inv-loop μ-loop
 same-length-2 c =
     let k : tie.After-keep Inv-loop μ-loop = search in
@@ -167,14 +153,10 @@ returns c =
     let m : tie.After-number-at3 Inv-loop μ-loop = search in
     let j = holder m in
     let k = kept j in
-    let b = tested (taken k) in
-    let r = ranked b in
-    let w = read r in
-    let a = state w in
+    let a = turn j in
     let s = start a in
-    let (path, closed) = searching-closed (s .pre .0 .0 .proper) (s .pre .1 .1 .1 .0) (a .loop .inv .2) (willing b (taken k .if1 .taken)) (w .list-at .ensures .0)
-    (rank-read (s .pre .0 .0) (man a) (listed a) (w .list-at .ensures .0) (r .entry .ensures .0)) (k .keep .ensures) (j .number-at2 .ensures .0)
-    (m .number-at3 .ensures .0) (c .if2 .taken) in
+    let (path, closed) = searching-closed (s .pre .0 .0 .proper) (s .pre .1 .1 .1 .0) (a .loop .inv .2) (willing (tested (taken k)) (taken k .if1 .taken))
+    (k .keep .ensures) (j .number-at2 .ensures .0) (m .number-at3 .ensures .0) (c .if2 .taken) in
     (path, (closed, refl))
 
 add-depth : tie.Need-add-depth Inv-loop μ-loop
@@ -212,20 +194,18 @@ loop-again c =
     let w = read r in
     let a = state w in
     let s = start a in
-    let ew = w .list-at .ensures .0 in
-    let er = r .entry .ensures .0 in
     ⊎-elim
     (λ z. rw (z .17, z .18, z .19, z .20, z .21) (
       z .11 .kept .1 .0 ∙ a .loop .inv .0,
       z .11 .kept .0 ∙ (z .2 .kept .0 ∙ a .loop .inv .1),
-      searching-entered (s .pre .0 .0 .proper) (s .pre .1 .1 .1 .0) (a .loop .inv .2) (willing b (z .0 .taken)) ew (rank-read (s .pre .0 .0) (man a) (listed a) ew er)
+      searching-entered (s .pre .0 .0 .proper) (s .pre .1 .1 .1 .0) (a .loop .inv .2) (willing b (z .0 .taken))
           (z .2 .ensures) (z .5 .ensures .0) (z .7 .ensures .0) (z .8 .left) (z .11 .ensures) (z .16 .ensures .0),
     ))
     (λ z. rw (z .1, z .2, z .3, z .4, z .5) (
       a .loop .inv .0,
       a .loop .inv .1,
       searching-on (s .pre .0 .0 .proper) (s .pre .1 .1 .1 .0) (a .loop .inv .2)
-          (unwilling-read (s .pre .0 .0) (man a) (listed a) ew er (vec (now (s .args .t))) (b .number-at .ensures .0) (z .0 .left)),
+          (unwilling-read (s .pre .0 .0) (man a) (listed a) (w .list-at .ensures .0) (r .entry .ensures .0) (vec (now (s .args .t))) (b .number-at .ensures .0) (z .0 .left)),
     ))
     (j .if1 .came)
 
@@ -249,11 +229,11 @@ find-spec =
     list-at-requires
     entry-requires
     number-at-requires
-    sub-keep
+    (λ c. let a : tie.At-loop Inv-loop μ-loop = search in omega (arith, a .loop .inv .2 .some))
     keep-requires
     number-at-requires-2
     number-at-requires-3
-    same-length
+    (λ c. let a : tie.At-loop Inv-loop μ-loop = search in a .loop .inv .0 ∙ sym (start a .pre .1 .1 .0 .0))
     same-length-2
     returns
     add-depth

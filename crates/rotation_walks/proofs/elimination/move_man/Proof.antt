@@ -1,5 +1,5 @@
 -- `move_man` meets its contract: four stores of what is read in the frame. Assumes nothing.
-use mathlib.Core.Path.{refl, ap, ap₂}
+use mathlib.Core.Path.{ap, ap₂}
 use denote.Ref.{now}
 use lib.ListN.{set}
 use borrow.Author.Needs.{needs}
