@@ -4,12 +4,9 @@ use mathlib.Core.Path.{_≡_, sym, _∙_}
 use mathlib.Core.List.{List, [], _∷_, map}
 use native.Mathlib.Omega.{arith}
 use lib.ListN.{length}
-use Rattle.laws.specs.Values.{values-same}
-use Rattle.format.specs.Format.{people}
 use Rattle.format.specs.WellFormed.{WellFormed}
 use Rattle.stable_theory.specs.Stable.Vector.{Stable}
 use Rattle.stable_theory.specs.Stable.Holding.{Same}
-use Rattle.stable_theory.specs.Matchings.Matching.{partners}
 use Rattle.stable_theory.specs.Least.Optimal.{proposer-optimal-stable}
 use Rattle.stable_theory.specs.Rotations.Rotation.{Rotation, Exposed, eliminate, Run, start, then, Among, here, there, Precedes}
 use Rattle.stable_theory.specs.Rotations.ExtraVector.{vector-sym}
@@ -22,18 +19,19 @@ use Rattle.matchings.specs.Extreme.{matchingOf, manOptimal}
 use Rattle.matchings.specs.Laws.StableVector.{vector-back, stable-of}
 use Rattle.matchings.specs.Laws.Extreme.{man-optimal-stable}
 use Rattle.rotations.specs.ByteRotation.{Pairs, ExposedIn, eliminated, rotationNumber, RunTo, begins, eliminates, OneOf, PrecedesIn}
+use Rattle.rotations.specs.Laws.ThereAndBack.{matching-agree}
 use Rattle.rotations.specs.Laws.PairLists.{cycleOf, pairsOf, cycle-same, same-cycle, pairs-same}
 use Rattle.rotations.specs.Laws.ExposedRotations.{exposed-theory, theory-exposed, exposed-pairs}
 use Rattle.rotations.specs.Laws.Eliminations.{eliminated-is, eliminated-stable, eliminated-places}
 
 -- one of a list is the first or one of the others
-pub one-here : {ρ σ : Pairs} {l : List Pairs} → σ ≡ ρ → OneOf ρ (σ ∷ l)
+one-here : {ρ σ : Pairs} {l : List Pairs} → σ ≡ ρ → OneOf ρ (σ ∷ l)
 one-here e = record { number = 0; below = omega arith; is = e }
 
-pub one-there : {ρ σ : Pairs} {l : List Pairs} → OneOf ρ l → OneOf ρ (σ ∷ l)
+one-there : {ρ σ : Pairs} {l : List Pairs} → OneOf ρ l → OneOf ρ (σ ∷ l)
 one-there o = record { number = suc (o .number); below = omega (arith, o .below); is = o .is }
 
-pub one-cases : {C : Type 0} {ρ σ : Pairs} {l : List Pairs} → OneOf ρ (σ ∷ l) → (σ ≡ ρ → C) → (OneOf ρ l → C) → C
+one-cases : {C : Type 0} {ρ σ : Pairs} {l : List Pairs} → OneOf ρ (σ ∷ l) → (σ ≡ ρ → C) → (OneOf ρ l → C) → C
 one-cases {C} {ρ} {σ} {l} o f g = at (o .number) (o .below) (o .is)
   where
     at : (k : ℕ) → k < suc (length l) → rotationNumber (σ ∷ l) k ≡ ρ → C
@@ -50,11 +48,6 @@ pub among-one : {ρ : Pairs} (l : List Pairs) → Among (cycleOf ρ) (map cycleO
 among-one {ρ} (σ ∷ l) (here s) = one-here (cycle-same σ ρ s)
 among-one (σ ∷ l) (there a) = one-there (among-one l a)
 
--- places that agree have one matching
-pub matching-agree : (b : List ℕ) {p q : ℕ → ℕ} → Same (market b) p q → matchingOf b p ≡ matchingOf b q
-unfolding partners market
-matching-agree b {p} {q} e = values-same (people b) (partners (market b) p) (partners (market b) q) (λ i u. rw (e i u))
-
 module _ {b : List ℕ} (W : WellFormed b) where
   -- a run comes to stable matchings alone
   pub run-to-stable : {m : List ℕ} {l : List Pairs} → RunTo b m l → StableIn b m
@@ -67,13 +60,15 @@ module _ {b : List ℕ} (W : WellFormed b) where
   run-theory begins = start (λ i u. vector-back W (proposer-optimal-stable (market-proper W)) u)
   run-theory (eliminates r X) = then (run-theory r) (exposed-theory (run-to-stable r .matching) X) (eliminated-places (run-to-stable r) X)
 
-  -- what the theory exposes in a stable vector is exposed in its matching
+  -- a stable vector and its matching
   module _ {p : ℕ → ℕ} (P : Stable (market b) p) where
+    -- which has its places
     back : Same (market b) (vectorOf b (matchingOf b p)) p
     unfolding market
     back i u = vector-back W P u
 
-    pub exposed-there : {σ : Rotation} → Exposed (market b) p σ → Exposed (market b) (vectorOf b (matchingOf b p)) σ
+    -- what the theory exposes in the one is exposed in the other
+    exposed-there : {σ : Rotation} → Exposed (market b) p σ → Exposed (market b) (vectorOf b (matchingOf b p)) σ
     exposed-there X = exposed-agree (market-proper W) (vector-sym (market-proper W) back) X
 
     pub exposed-matching : {σ : Rotation} → Exposed (market b) p σ → ExposedIn b (matchingOf b p) (pairsOf σ)
@@ -82,10 +77,11 @@ module _ {b : List ℕ} (W : WellFormed b) where
     pub matching-exposed : {ρ : Pairs} → Exposed (market b) p (cycleOf ρ) → ExposedIn b (matchingOf b p) ρ
     matching-exposed X = theory-exposed (stable-of W P .matching) (exposed-there X)
 
+    -- and back
     pub theory-exposed-in : {ρ : Pairs} → ExposedIn b (matchingOf b p) ρ → Exposed (market b) p (cycleOf ρ)
     theory-exposed-in X = exposed-agree (market-proper W) back (exposed-theory (stable-of W P .matching) X)
 
-    -- and eliminating it gives the matching of the places to which the theory goes
+    -- eliminating it gives the matching of the places to which the theory goes
     pub eliminated-matching : {σ : Rotation} → Exposed (market b) p σ → eliminated (pairsOf σ) (matchingOf b p) ≡ matchingOf b (eliminate (market b) σ p)
     eliminated-matching {σ} X =
         let s = pairs-same σ (X .some) (X .closes-man) (X .closes-woman) in

@@ -40,7 +40,7 @@ module _ {b m : List ℕ} (A : MatchingIn b m) where
   present-holds v = places-holds (market-proper (A .formed)) (matching-in A) (man-of-lt A v) v (man-of-has A v)
 
   -- and whoever holds her is that student
-  pub holder-present : {i w : ℕ} → Holds (market b) (vectorOf b m) i w → manOf (people b) m w ≡ i
+  holder-present : {i w : ℕ} → Holds (market b) (vectorOf b m) i w → manOf (people b) m w ≡ i
   unfolding market
   holder-present h =
       ap (manOf (people b) m) (sym (holds-places (market-proper (A .formed)) (matching-in A) h)) ∙ man-of-of A (h .pair .proposer)

@@ -27,12 +27,18 @@ use Rattle.stable_theory.specs.Rotations.ClosedSubset.{closed-agree}
 use Rattle.stable_theory.specs.Rotations.Demand2Theory.{theorem-1-matching, theorem-1-there, theorem-1-subset, theorem-1-back, closed-test}
 use Rattle.matchings.specs.BookMarket.{market, market-proper}
 use Rattle.matchings.specs.Matching.{vectorOf, checkMatching}
+use Rattle.matchings.specs.Extreme.{matchingOf}
 use Rattle.matchings.specs.Laws.StableCheck.{fine-stable}
 use Rattle.matchings.specs.Laws.StableVector.{fine-vector, matching-back, vector-fine, vector-back}
 use Rattle.rotations.specs.RotationList.{rotationCount}
 use Rattle.rotations.specs.Sets.{member, closedSet, setVector, setMatching, matchingSet}
 use Rattle.rotations.specs.Laws.SetVerdict.{GoodMarks}
 use Rattle.stable_theory.specs.Rotations.Subset
+
+-- places that agree have one matching
+pub matching-agree : (b : List ℕ) {p q : ℕ → ℕ} → Same (market b) p q → matchingOf b p ≡ matchingOf b q
+unfolding partners market
+matching-agree b {p} {q} e = values-same (people b) (partners (market b) p) (partners (market b) q) (λ i u. rw (e i u))
 
 -- the mark of a test, and the test of a mark
 bit-test : (t : Bool) → eqb (pick t 1 0) 1 ≡ t
@@ -117,7 +123,5 @@ module _ (b m : List ℕ) (e : checkMatching b m ≡ fine) where
 
   -- so the matching of the set is the matching
   pub matching-there : setMatching b (matchingSet b m) ≡ m
-  unfolding setMatching partners market
-  matching-there =
-      values-same (people b) (partners (market b) (setVector b (matchingSet b m))) (partners (market b) (vectorOf b m)) (λ i u. rw (there-vector i u))
-      ∙ matching-back (fine-stable b m .0 e .matching)
+  unfolding setMatching
+  matching-there = matching-agree b there-vector ∙ matching-back (fine-stable b m .0 e .matching)
