@@ -22,8 +22,8 @@ use Rattle.rotations.specs.Sets.{member}
 abbrev pub manLength : List ℕ → ℕ → ℕ
 manLength b i = market b .proposers .len i
 
--- Mentor w stands below the present mentor of student i on his list, and ranks him above her own present student, whom
--- she has where lists are complete
+-- Mentor w stands below the present mentor of student i on his list, and ranks him above her own present student (she
+-- has one, lists being complete)
 pub record WillingIn (b m : List ℕ) (i w : ℕ) : Type 0 where
   pub man : i < people b
   pub listed : manRank b i w < manLength b i

@@ -2,12 +2,12 @@
 -- a closed set of rotations to its matching and back, or the reverse, returns the start". The words are document 01's
 -- (ByteRotation.antt), over the bytes of a book and of its matchings; what is promised is of the replies, buffers,
 -- matchings and sets that the contracts cite. Each proof is a citation. Assumes nothing.
-use Prim.Native.Nat.{ℕ, _≤_, _<_}
+use Prim.Native.Nat.{ℕ, suc, _≤_, _<_}
 use mathlib.Core.Path.{_≡_}
 use mathlib.Core.Bool.{true, false}
 use mathlib.Core.List.{List, _++_}
 use mathlib.Core.Logic.{_↔_}
-use lib.ListN.{length, drop}
+use lib.ListN.{length, take, drop}
 use Rattle.format.specs.Verdict.{fine, broken}
 use Rattle.format.specs.Outcome.{gives}
 use Rattle.format.specs.Format.{people}
@@ -17,18 +17,23 @@ use Rattle.matchings.specs.Laws.StableCheck.{fine-stable}
 use Rattle.rotations.specs.RotationList.{listReply, listBuffer}
 use Rattle.rotations.specs.Precedence.{precedenceReply}
 use Rattle.rotations.specs.Sets.{checkSet, setMatching, matchingSet}
-use Rattle.rotations.specs.ByteRotation.{Pairs, pairAt, NextIn, CycleIn, writtenFrom, ExposedIn, eliminated, NumberedIn, rotationNumber, endToEnd, RunTo, OneOf, EachOnce, PrecedesIn, SetIn, ClosedIn, Exactly}
+use Rattle.rotations.specs.ByteRotation.{Pairs, pairAt, NextIn, CycleIn, writtenFrom, ExposedIn, eliminated, NumberedIn, rotationNumber, bytesOf, endToEnd, RunTo, OneOf, EachOnce, PrecedesIn, SetIn, ClosedIn, Exactly}
+use Rattle.rotations.specs.Laws.NextMentors.{next-one}
 use Rattle.rotations.specs.Laws.WrittenCycles.{cycle-exposed}
 use Rattle.rotations.specs.Laws.Eliminations.{eliminated-next, eliminated-keeps, eliminated-stable}
 use Rattle.rotations.specs.Laws.EliminationRuns.{run-to-stable}
 use Rattle.rotations.specs.Laws.Numberings.{listed, numbered-one, numbered-listed}
 use Rattle.rotations.specs.Laws.NumberedRotations.{numbered-all, numbered-once, numbered-exposed}
-use Rattle.rotations.specs.Laws.RotationBytes.{reply-count, buffer-bytes, bytes-read}
+use Rattle.rotations.specs.Laws.RotationBytes.{reply-count, buffer-bytes, bytes-at, bytes-read}
 use Rattle.rotations.specs.Laws.NumberedOrder.{answer-yes, answer-no, itself-not, accepted-closed, refused-open}
 use Rattle.rotations.specs.Laws.NumberedRuns.{run-reaches, run-exactly, run-each-once, run-numbered, set-leads, closed-round, stable-round}
 
 -- A matching m that the check calls stable
 module _ (b m : List ℕ) (stable : checkMatching b m ≡ fine) where
+  -- a student has one next mentor at most
+  pub next-at-most : (i w v : ℕ) → NextIn b m i w → NextIn b m i v → w ≡ v
+  next-at-most i w v N O = next-one (fine-stable b m .0 stable) N O
+
   -- a cycle of pairs, whichever pair it is written from, is a rotation when it is written from its lowest student
   pub cycle-rotation : (ρ : Pairs) → CycleIn b m ρ → (k : ℕ) × (k < length ρ) × ExposedIn b m (writtenFrom k ρ)
   cycle-rotation ρ cycle = cycle-exposed cycle
@@ -71,6 +76,11 @@ module _ (b : List ℕ) (formed : WellFormed b) where
     pub list-bytes :
         (out : List ℕ) → length (endToEnd l) ≤ length out → listBuffer b out ≡ endToEnd l ++ drop (length (endToEnd l)) out
     list-bytes = buffer-bytes formed numbered
+
+    -- each after those before it
+    pub list-rotation :
+        (k : ℕ) → k < length l → endToEnd l ≡ endToEnd (take k l) ++ bytesOf (rotationNumber l k) ++ endToEnd (drop (suc k) l)
+    list-rotation = bytes-at l
 
     -- and no other rotations have these bytes
     pub list-read : (k : List Pairs) → endToEnd k ≡ endToEnd l → k ≡ l

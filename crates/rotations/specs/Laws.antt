@@ -1,5 +1,5 @@
--- What Demand2 cites: that document 01's words over bytes are the theory's over places, when a set is accepted, and both
--- ways between sets and matchings. Assumes nothing.
+-- What Demand2 cites: that document 01's words over bytes are the theory's over places, when a set is accepted, and
+-- both ways between sets and matchings. Assumes nothing.
 pub mod SetVerdict
 pub mod ThereAndBack
 pub mod PairLists

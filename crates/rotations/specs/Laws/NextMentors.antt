@@ -15,9 +15,10 @@ use Rattle.stable_theory.specs.Stable.Holding.{rank-injective}
 use Rattle.stable_theory.specs.Matchings.MatchingLaws.{places-placed, places-holds, holds-places}
 use Rattle.stable_theory.specs.Matchings.Perfect.{lists-all}
 use Rattle.stable_theory.specs.Rotations.Rotation.{Next}
+use Rattle.stable_theory.specs.Rotations.NextLaws.{next-receiver}
 use Rattle.matchings.specs.BookMarket.{market, market-proper, market-complete}
-use Rattle.matchings.specs.Matching.{manRank, womanRank, womanOf, manOf, vectorOf, MatchingIn}
-use Rattle.matchings.specs.Laws.StableVector.{man-of-lt, man-of-has, man-of-of, matching-in}
+use Rattle.matchings.specs.Matching.{manRank, womanRank, womanOf, manOf, vectorOf, MatchingIn, StableIn}
+use Rattle.matchings.specs.Laws.StableVector.{man-of-lt, man-of-has, man-of-of, matching-in, vector-stable}
 use Rattle.rotations.specs.ByteRotation.{manLength, WillingIn, NextIn}
 
 module _ {b m : List ℕ} (A : MatchingIn b m) where
@@ -89,3 +90,8 @@ module _ {b m : List ℕ} (A : MatchingIn b m) where
             (λ l. let (h, H, g) = N .between v (listed-pair (c .man) (c .listed)) (omega (arith, c .below, place-present (c .man))) l in
             absurd (omega (arith, c .prefers, ap (womanRank b v) (holder-present H))));
       }
+
+-- a student has one next mentor at most
+pub next-one : {b m : List ℕ} → StableIn b m → {i w v : ℕ} → NextIn b m i w → NextIn b m i v → w ≡ v
+next-one S N O =
+    next-receiver (market-proper (S .matching .formed)) (vector-stable S .settled) (next-theory (S .matching) N) (next-theory (S .matching) O)

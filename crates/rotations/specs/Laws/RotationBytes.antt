@@ -1,10 +1,11 @@
 -- The bytes of the list of rotations: those of the numbered rotations end to end, from which the rotations can be read
 -- in one way. Assumes nothing.
-use Prim.Native.Nat.{ℕ, zero, suc, _+_, _≤_}
+use Prim.Native.Nat.{ℕ, zero, suc, _+_, _≤_, _<_}
 use mathlib.Core.Path.{_≡_, refl, sym, _∙_, ap, ap₂}
 use mathlib.Core.List.{List, [], _∷_, _++_, append-assoc, append-nil}
 use native.Mathlib.Omega.{arith}
-use lib.ListN.{length, drop}
+use lib.ListN.{length, take, drop}
+use lib.Seq.{split-at}
 use Rattle.laws.specs.Values.{values}
 use Rattle.format.specs.Verdict.{Verdict, fine}
 use Rattle.format.specs.Outcome.{gives, after, filled}
@@ -15,7 +16,7 @@ use Rattle.stable_theory.specs.Rotations.Rotation.{Rotation}
 use Rattle.stable_theory.specs.Rotations.Numbering.{rotation}
 use Rattle.matchings.specs.BookMarket.{market}
 use Rattle.rotations.specs.RotationList.{pairBytes, rotationBytes, bytesUpto, rotationCount, listBytes, checkListRoom, listReply, listBuffer}
-use Rattle.rotations.specs.ByteRotation.{Pair, Pairs, NumberedIn, memberBytes, bytesOf, endToEnd}
+use Rattle.rotations.specs.ByteRotation.{Pair, Pairs, NumberedIn, rotationNumber, memberBytes, bytesOf, endToEnd}
 use Rattle.rotations.specs.Laws.PairLists.{pairIn, pairsOf, pairs-long}
 use Rattle.rotations.specs.Laws.Numberings.{listed}
 use Rattle.rotations.specs.Laws.NumberedRotations.{is-listed, numbered-count}
@@ -64,6 +65,18 @@ module _ {b : List ℕ} (W : WellFormed b) {l : List Pairs} (N : NumberedIn b l)
   buffer-bytes out h =
       ap (λ (v : Verdict). filled v (length (listBytes b)) (listBytes b) out) (room-for h)
       ∙ ap (λ (r : List ℕ). r ++ drop (length r) out) numbered-bytes
+
+-- some rotations and others end to end
+end-append : (l k : List Pairs) → endToEnd (l ++ k) ≡ endToEnd l ++ endToEnd k
+end-append [] k = refl
+end-append (ρ ∷ l) k = ap (λ (r : List ℕ). bytesOf ρ ++ r) (end-append l k) ∙ sym (append-assoc (bytesOf ρ) (endToEnd l) (endToEnd k))
+
+-- rotation k stands after those before it
+pub bytes-at : (l : List Pairs) (k : ℕ) → k < length l → endToEnd l ≡ endToEnd (take k l) ++ bytesOf (rotationNumber l k) ++ endToEnd (drop (suc k) l)
+bytes-at l k h =
+    ap endToEnd (split-at l k [] h)
+    ∙ (end-append (take k l) (rotationNumber l k ∷ drop (suc k) l)
+    ∙ sym (append-assoc (endToEnd (take k l)) (bytesOf (rotationNumber l k)) (endToEnd (drop (suc k) l))))
 
 -- what stands first in a list, and what follows
 abbrev firstOf : List ℕ → ℕ
