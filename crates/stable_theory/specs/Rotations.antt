@@ -25,5 +25,7 @@ pub mod RotationCount
 pub mod SharedMan
 pub mod Cover
 pub mod CanonicalStep
+pub mod Clear
+pub mod Unordered
 pub mod RotationAlike
 pub mod Demand2Theory
