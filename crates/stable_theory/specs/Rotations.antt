@@ -27,5 +27,6 @@ pub mod Cover
 pub mod CanonicalStep
 pub mod Clear
 pub mod Unordered
+pub mod Finding
 pub mod RotationAlike
 pub mod Demand2Theory
