@@ -114,13 +114,12 @@ module _ {first left empty : ℕ → ℕ} where
     -- or for nobody
     pub entered-on : left j ≡ 0 → {m : ℕ} {after : ℕ → ℕ} → m ≡ first j → Changed m (suc j) ready after → Entered (j + 1) first left empty after
     entered-on l {m} {after} s D =
-        let me : Freed (j + 1) (λ i. suc (left i)) left j = record { number = omega arith; some = omega arith; none = l } in
         record {
           fewer = λ h. omega arith;
           entry = λ {m = i} {q} e. same i m
               (λ d. let r : suc j ≡ suc q = sym (D .here) ∙ rw d at e in
               let k : j ≡ q = omega arith in
-              inr (rw k at me, ap first (sym k) ∙ (sym s ∙ sym d)))
+              inr (record { number = omega arith; some = omega arith; none = ap left (sym k) ∙ l }, ap first (sym k) ∙ (sym s ∙ sym d)))
               (λ ne. ⊎-elim (λ o. inl o) (λ o. inr (among (o .0), o .1)) (R .entry (sym (D .others i ne) ∙ e)));
           enters = λ {q} f. same (first q) m
               (λ d. rw d (omega (arith, D .here)))
