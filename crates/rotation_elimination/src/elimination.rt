@@ -16,7 +16,7 @@ ghost use Rattle.rotation_elimination.specs.Written.{around, rotationIn,
 ghost use Rattle.rotation_elimination.specs.Elimination.{Eliminable, Eliminating};
 
 // Number k of a cycle of c pairs, in which number c is number 0 again.
-fn round(c: usize, k: usize) -> usize
+pub fn round(c: usize, k: usize) -> usize
     ensures { λ r. ⌜ r ≡ around c k ⌝ }
 {
     if k == c { 0 } else { k }

@@ -2,4 +2,5 @@
 mod elimination;
 
 pub use elimination::eliminate;
+pub use elimination::round;
 pub use elimination::write_cycle;

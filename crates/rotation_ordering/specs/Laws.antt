@@ -1,0 +1,3 @@
+-- Laws of the numbering. Assumes nothing.
+pub mod Release
+pub mod Raise
