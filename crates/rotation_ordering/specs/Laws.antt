@@ -1,4 +1,2 @@
 -- Laws of the numbering. Assumes nothing.
-pub mod Release
-pub mod Raise
-pub mod Turning
+pub mod Queue

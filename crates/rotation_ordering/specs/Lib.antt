@@ -1,7 +1,4 @@
--- The rotations in order of number, from all of them in any order: Rotations, Release, Counts and Turning have what contracts cite, Laws
--- what only proofs cite. Assumes nothing.
-pub mod Rotations
-pub mod Release
-pub mod Counts
-pub mod Turning
+-- The rotations in order of number, from all of them in any order: Queue has what contracts cite, Laws what only proofs
+-- cite. Assumes nothing.
+pub mod Queue
 pub mod Laws

@@ -1,47 +1,44 @@
-// The queue of the rotations that wait for no woman. The rotations stand in `pairs`, number q from index begin[q] on, and
-// `left` has for how many women each waits. `ready` has for each man one more than the number of the rotation of the
-// queue of which he is the first man, or 0.
+// The queue of the rotations that wait for no woman: those that wait for none from the start enter it, and the one of
+// the lowest first man is looked for.
 use tables::wide;
-ghost use mathlib.Core.Path.{_≡_};
-ghost use Prim.Native.Nat.{_≤_, _<_, min};
+ghost use Prim.Native.Nat.{_<_};
 ghost use lib.ListN.{length};
-ghost use Rattle.laws.specs.Moment.{now₀, vec₀, vec₁};
-ghost use Rattle.rotation_waits.specs.Queue.{Released};
-ghost use Rattle.rotation_ordering.specs.Rotations.{firstMan, Names};
-ghost use Rattle.rotation_ordering.specs.Release.{Releasable, OneLess};
+ghost use Rattle.laws.specs.Moment.{now₀, now₁, vec₀, vec₁};
+ghost use Rattle.rotation_waits.specs.Queue.{Entered};
+ghost use Rattle.rotation_release.specs.Rotations.{firstMan};
+ghost use Rattle.rotation_ordering.specs.Queue.{Enterable, EnteredAt, SomeFrom, FirstFrom};
 
-// The lower of two numbers.
-fn lower(x: usize, y: usize) -> usize
-    ensures { λ r. ⌜ r ≡ min x y ⌝ }
+// Rotation number q enters where it waits for nobody.
+fn enter(pairs: &[u16], begin: &[u16], left: &[u16], ready: &mut [u16], q: usize)
+    requires { ⌜ Enterable (now pairs) (now begin) (now left) (now ready) × (q < length (now left)) ⌝ }
+    ensures { λ _. ⌜ EnteredAt (firstMan (now₀ pairs) (now₀ begin) q) q (vec₀ left q) (now₀ ready) (now₁ ready) ⌝ }
 {
-    if y < x { y } else { x }
+    if left[q] == 0 {
+        let first = wide(pairs[wide(begin[q]) + 1]);
+        ready[first] = (q + 1) as u16;
+    }
 }
 
-// One woman less for the rotation of this name, one more than its number; where she was the last for whom it waited, it
-// enters. No rotation has the name 0. No man before the answer has an entry where none before `low` had one.
-pub(crate) fn release(
-    name: usize,
-    pairs: &[u16],
-    begin: &[u16],
-    left: &mut [u16],
-    ready: &mut [u16],
-    low: usize,
-) -> usize
-    requires { ⌜ Releasable name (now pairs) (now begin) (now left) (now ready) ⌝ }
-    ensures { λ r. ⌜ Released (length (now₀ left)) (firstMan (now₀ pairs) (now₀ begin))
-        (vec₀ left) (vec₀ ready) low (vec₁ left) (vec₁ ready) r ⌝ }
-    ensures { λ _. ⌜ OneLess name (vec₀ left) (vec₁ left) ⌝ }
+// Each rotation that waits for nobody enters.
+pub(crate) fn enter_all(pairs: &[u16], begin: &[u16], left: &[u16], ready: &mut [u16])
+    requires { ⌜ Enterable (now pairs) (now begin) (now left) (now ready) ⌝ }
+    ensures { λ _. ⌜ Entered (length (now₀ left)) (firstMan (now₀ pairs) (now₀ begin)) (vec₀ left) (vec₀ ready) (vec₁ ready) ⌝ }
 {
-    if name == 0 {
-        return low;
+    let mut q = 0;
+    while q < left.len() {
+        enter(pairs, begin, left, ready, q);
+        q += 1;
     }
-    let q = name - 1;
-    let fewer = wide(left[q]) - 1;
-    left[q] = fewer as u16;
-    if fewer != 0 {
-        return low;
+}
+
+// The first man from `low` on who has an entry. There is one.
+pub(crate) fn lowest(ready: &[u16], low: usize) -> usize
+    requires { ⌜ SomeFrom (now ready) low ⌝ }
+    ensures { λ r. ⌜ FirstFrom (now₀ ready) low r ⌝ }
+{
+    let mut m = low;
+    while ready[m] == 0 {
+        m += 1;
     }
-    let first = wide(pairs[wide(begin[q]) + 1]);
-    ready[first] = name as u16;
-    lower(low, first)
+    m
 }

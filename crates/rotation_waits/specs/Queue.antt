@@ -26,6 +26,10 @@ pub record Released (z : ℕ) (first before queue : ℕ → ℕ) (bound : ℕ) (
   pub kept : {m : ℕ} → 0 < queue m → 0 < ready m
   pub bounded : NoneBefore queue bound → NoneBefore ready low
 
+-- The first j rotations enter an empty queue where they wait for nobody, as if each had waited for one more
+abbrev pub Entered : ℕ → (first left empty ready : ℕ → ℕ) → Type 0
+Entered j first left empty ready = Released j first (λ q. suc (left q)) empty 0 left ready 0
+
 -- The queue holds the rotations that are exposed in p, of z rotations σ
 pub record Queue (I : Market) (p : ℕ → ℕ) (z : ℕ) (σ : ℕ → Rotation) (ready : ℕ → ℕ) : Type 0 where
   pub entry : {m q : ℕ} → ready m ≡ suc q → (q < z) × (σ q .man 0 ≡ m) × Exposed I p (σ q)

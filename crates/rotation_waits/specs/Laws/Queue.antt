@@ -19,7 +19,7 @@ use Rattle.stable_theory.specs.Rotations.SameRotation.{passed-agree}
 use Rattle.stable_theory.specs.Rotations.OneRotation.{exposed-not}
 use Rattle.stable_theory.specs.Rotations.Unordered.{Unordered, unordered-kept, unordered-before, unordered-other, unordered-alone}
 use Rattle.rotation_waits.specs.Waits.{waitsLeft, Noted}
-use Rattle.rotation_waits.specs.Queue.{Freed, Released, Queue}
+use Rattle.rotation_waits.specs.Queue.{Freed, Released, Entered, Queue}
 use Rattle.rotation_waits.specs.Laws.Noted.{exposed-left, passed-left, left-exposed}
 
 -- z rotations σ are all, `first` their first men, and the table `waits` says for whom they wait at the places `best`
@@ -117,8 +117,8 @@ module _ {I : Market} (M : Proper I) {z : ℕ} {σ : ℕ → Rotation} (U : Unor
     -- In the proposers' best vector no rotation is passed: the queue is made of those that wait for nobody, which enter
     -- an empty one as if they had waited for one more
     pub queue-start :
-        {empty ready : ℕ → ℕ} {low : ℕ} → ((q : ℕ) → q < z → passed I (σ q) p ≡ false) → ((m : ℕ) → empty m ≡ 0) →
-        Released z first (λ q. suc (left q)) empty 0 left ready low → Queue I p z σ ready
+        {empty ready : ℕ → ℕ} → ((q : ℕ) → q < z → passed I (σ q) p ≡ false) → ((m : ℕ) → empty m ≡ 0) →
+        Entered z first left empty ready → Queue I p z σ ready
     queue-start {empty} {ready} none zero R =
         queue-of P
         (λ m q e. ⊎-elim

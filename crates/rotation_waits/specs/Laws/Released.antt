@@ -5,7 +5,7 @@ use mathlib.Core.Logic.{inl, inr, ⊎-elim}
 use native.Mathlib.Omega.{arith}
 use Rattle.laws.specs.Choice.{split, same}
 use Rattle.laws.specs.Changed.{Changed}
-use Rattle.rotation_waits.specs.Queue.{Freed, Released}
+use Rattle.rotation_waits.specs.Queue.{Freed, Released, Entered}
 
 module _ {z : ℕ} {first before queue : ℕ → ℕ} {bound : ℕ} where
   -- nothing has changed
@@ -76,10 +76,6 @@ module _ {z : ℕ} {before : ℕ → ℕ} {q x : ℕ} (h : q < z) (e : before q 
         kept = λ {m = i} g. same i m (λ d. rw d (omega (arith, D .here))) (λ ne. omega (arith, D .others i ne));
         bounded = λ g i k. D .others i (λ d. omega arith) ∙ g i (omega arith);
       }
-
--- The first j rotations enter an empty queue where they wait for nobody, as if each had waited for one more
-abbrev pub Entered : ℕ → (first left empty ready : ℕ → ℕ) → Type 0
-Entered j first left empty ready = Released j first (λ q. suc (left q)) empty 0 left ready 0
 
 module _ {first left empty : ℕ → ℕ} where
   -- none has

@@ -11,8 +11,8 @@ use Rattle.laws.specs.Values.{vec}
 use Rattle.rotation_elimination.specs.Written.{rotationIn}
 use Rattle.rotation_waits.specs.Queue.{Released}
 use Rattle.rotation_waits.specs.Laws.Released.{released-start, released-then}
-use Rattle.rotation_ordering.specs.Counts.{Counts}
-use Rattle.rotation_ordering.specs.Turning.{Improves, WomenTurned}
+use Rattle.rotation_release.specs.Counts.{Counts}
+use Rattle.rotation_release.specs.Turning.{Improves, WomenTurned}
 
 -- What the loop knows after k pairs
 pub record Turning (n : ℕ) (ranks waits pairs : List ℕ) (first : ℕ → ℕ) (from : ℕ) (old before queue : List ℕ) (bound k : ℕ) (t left ready : List ℕ) (low : ℕ) : Type 0 where

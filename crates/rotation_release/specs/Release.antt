@@ -6,7 +6,7 @@ use lib.Dec.{eqb}
 use lib.ListN.{length}
 use Rattle.laws.specs.Choice.{pick}
 use Rattle.laws.specs.Values.{vec}
-use Rattle.rotation_ordering.specs.Rotations.{firstMan}
+use Rattle.rotation_release.specs.Rotations.{firstMan}
 
 -- the name is 0, or that of a rotation which can be read and waits for somebody
 pub record Releasable (name : ℕ) (pairs begin left ready : List ℕ) : Type 0 where

@@ -9,10 +9,10 @@ use Rattle.laws.specs.Table.{cell-lt}
 use Rattle.laws.specs.Values.{vec}
 use Rattle.rotation_elimination.specs.Written.{rotationIn}
 use Rattle.rotation_elimination.specs.Laws.EliminateCode.{man-read, woman-read, around-lt}
-use Rattle.rotation_ordering.specs.Rotations.{firstMan}
-use Rattle.rotation_ordering.specs.Laws.Turning.{Turning, turning-start, turning-better, turning-on}
-use Rattle.rotation_ordering.proofs.turning.turn.Statement.{statement}
-use Rattle.rotation_ordering.proofs.turning.turn.Tie as tie
+use Rattle.rotation_release.specs.Rotations.{firstMan}
+use Rattle.rotation_release.specs.Laws.Turning.{Turning, turning-start, turning-better, turning-on}
+use Rattle.rotation_release.proofs.turning.turn.Statement.{statement}
+use Rattle.rotation_release.proofs.turning.turn.Tie as tie
 
 abbrev Inv-loop : tie.InvT-loop
 Inv-loop n wranks waits pairs begin t₀ left₀ ready₀ from low c least₀ k₀ t left ready least k =

@@ -2,9 +2,9 @@
 -- nobody and enters. Assumes nothing.
 use native.Mathlib.Omega.{arith}
 use borrow.Author.Needs.{needs}
-use Rattle.rotation_ordering.specs.Laws.Release.{no-name, name-inside, name-man, name-waits, name-still, name-last}
-use Rattle.rotation_ordering.proofs.queue.release.Statement.{statement}
-use Rattle.rotation_ordering.proofs.queue.release.Tie as tie
+use Rattle.rotation_release.specs.Laws.Release.{no-name, name-inside, name-man, name-waits, name-still, name-last}
+use Rattle.rotation_release.proofs.queue.release.Statement.{statement}
+use Rattle.rotation_release.proofs.queue.release.Tie as tie
 
 -- from each place to the one before it that the proof names
 abbrev start : tie.Else1 → tie.Start

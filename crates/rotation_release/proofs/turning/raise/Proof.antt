@@ -6,10 +6,10 @@ use native.Mathlib.Omega.{arith}
 use borrow.Author.Needs.{needs}
 use Rattle.laws.specs.Table.{cell-lt}
 use Rattle.laws.specs.Values.{vec}
-use Rattle.rotation_ordering.specs.Rotations.{firstMan}
-use Rattle.rotation_ordering.specs.Laws.Raise.{Raising, raising-start, raising-releasable, raising-on, raising-end}
-use Rattle.rotation_ordering.proofs.turning.raise.Statement.{statement}
-use Rattle.rotation_ordering.proofs.turning.raise.Tie as tie
+use Rattle.rotation_release.specs.Rotations.{firstMan}
+use Rattle.rotation_release.specs.Laws.Raise.{Raising, raising-start, raising-releasable, raising-on, raising-end}
+use Rattle.rotation_release.proofs.turning.raise.Statement.{statement}
+use Rattle.rotation_release.proofs.turning.raise.Tie as tie
 
 abbrev Inv-loop : tie.InvT-loop
 Inv-loop n waits pairs begin t left₀ ready₀ v new low least₀ x₀ left ready least x =

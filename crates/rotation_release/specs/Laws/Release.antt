@@ -11,8 +11,8 @@ use Rattle.laws.specs.Changed.{Changed, changed-set}
 use Rattle.laws.specs.Values.{vec}
 use Rattle.rotation_waits.specs.Queue.{Released}
 use Rattle.rotation_waits.specs.Laws.Released.{released-start, released-one, released-last}
-use Rattle.rotation_ordering.specs.Rotations.{firstMan}
-use Rattle.rotation_ordering.specs.Release.{Releasable, OneLess}
+use Rattle.rotation_release.specs.Rotations.{firstMan}
+use Rattle.rotation_release.specs.Release.{Releasable, OneLess}
 
 -- no rotation has the name 0
 pub no-name : {name z : ℕ} {first left ready : ℕ → ℕ} {low : ℕ} → name ≡ 0 → Released z first left ready low left ready low × OneLess name left left

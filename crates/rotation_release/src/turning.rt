@@ -9,10 +9,10 @@ ghost use lib.ListN.{length, set};
 ghost use Rattle.laws.specs.Moment.{now₀, now₁, vec₀, vec₁};
 ghost use Rattle.laws.specs.Values.{vec};
 ghost use Rattle.rotation_waits.specs.Queue.{Released};
-ghost use Rattle.rotation_ordering.specs.Rotations.{firstMan, Names};
+ghost use Rattle.rotation_release.specs.Rotations.{firstMan, Names};
 ghost use Rattle.rotation_elimination.specs.Written.{rotationIn};
-ghost use Rattle.rotation_ordering.specs.Counts.{Counts};
-ghost use Rattle.rotation_ordering.specs.Turning.{Improves, WomenTurned};
+ghost use Rattle.rotation_release.specs.Counts.{Counts};
+ghost use Rattle.rotation_release.specs.Turning.{Improves, WomenTurned};
 
 // Woman v goes up to the man of rank `new`: the rotations that wait until she has a man of that rank or of one between
 // it and her present man's wait for one woman less. The answer is as that of `release`.
@@ -47,7 +47,7 @@ fn raise(
 }
 
 // Each woman of the rotation from index `from` on goes to the man of the pair before. The answer is as that of `release`.
-pub(crate) fn turn(
+pub fn turn(
     n: usize,
     wranks: &[u16],
     waits: &[u16],

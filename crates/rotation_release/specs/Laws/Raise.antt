@@ -14,9 +14,9 @@ use Rattle.rotation_waits.specs.Queue.{Released}
 use Rattle.rotation_waits.specs.Waits.{waitsLeft}
 use Rattle.rotation_waits.specs.Laws.Left.{placed, left-start, left-on, left-end}
 use Rattle.rotation_waits.specs.Laws.Released.{released-start, released-then}
-use Rattle.rotation_ordering.specs.Rotations.{firstMan, Names}
-use Rattle.rotation_ordering.specs.Release.{Releasable, OneLess}
-use Rattle.rotation_ordering.specs.Counts.{Counts}
+use Rattle.rotation_release.specs.Rotations.{firstMan, Names}
+use Rattle.rotation_release.specs.Release.{Releasable, OneLess}
+use Rattle.rotation_release.specs.Counts.{Counts}
 
 -- The loop at rank x: the rotations wait as if woman v had the man of that rank, and the queue is as they were released
 pub record Raising (n : ℕ) (waits : List ℕ) (first t : ℕ → ℕ) (v : ℕ) (before queue : List ℕ) (bound x : ℕ) (left ready : List ℕ) (low : ℕ) : Type 0 where
