@@ -7,7 +7,6 @@ use lib.ListN.{length}
 use Rattle.format.specs.Format.{largest}
 use Rattle.format.specs.Record.{Record}
 use Rattle.instances.specs.Usable.{marketIn}
-use Rattle.laws.specs.Sum.{sum}
 use Rattle.laws.specs.Values.{vec}
 use Rattle.stable_theory.specs.Stable.Market.{Market}
 use Rattle.stable_theory.specs.Stable.Holding.{Same}
@@ -34,11 +33,6 @@ pub record OneTurn (I : Market) (p : ℕ → ℕ) (before : List ℕ) (at : ℕ)
 pub data Turned (I : Market) (p : ℕ → ℕ) (before : List ℕ) (at : ℕ) (q u next : ℕ → ℕ) (l : List ℕ) (c : ℕ) : Type 0 where
   none : I .proposers .size ≤ lowest I p → c ≡ 0 → l ≡ before → Turned I p before at q u next l c
   one : OneTurn I p before at q u next l c → Turned I p before at q u next l c
-
--- room for the rotations to come: the list holds two and a half numbers for each place
-pub record Room (a b : ℕ) (p : ℕ → ℕ) (at : ℕ) (l : List ℕ) : Type 0 where
-  pub used : 2 * at ≤ 5 * sum a p
-  pub whole : 5 * (a * b) ≤ 2 * length l
 
 -- the list holds all rotations, k of them, and ends at `end`
 pub record Numbered (I : Market) (l : List ℕ) (k end : ℕ) : Type 0 where

@@ -16,7 +16,8 @@ ghost use Rattle.laws.specs.Values.{vec};
 ghost use Rattle.stable_theory.specs.Stable.Holding.{Same};
 ghost use Rattle.stable_theory.specs.Least.Optimal.{proposer-optimal};
 ghost use Rattle.rotation_search.specs.Pointers.{State};
-ghost use Rattle.rotation_numbering.specs.Numbering.{Room, Turned, Numbered, listRoom, NumberingOf};
+ghost use Rattle.rotation_elimination.specs.Room.{Room};
+ghost use Rattle.rotation_numbering.specs.Numbering.{Turned, Numbered, listRoom, NumberingOf};
 
 // How many rotations there are, and where their list ends.
 pub struct Extent {

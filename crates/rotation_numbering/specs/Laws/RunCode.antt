@@ -6,9 +6,6 @@ use mathlib.Core.List.{List}
 use native.Mathlib.Omega.{arith}
 use lib.ListN.{length}
 use Rattle.tables.specs.Lists.{tablesOf, Sound, Sized, marketOf}
-use Rattle.laws.specs.Sum.{sum}
-use Rattle.laws.specs.SumLaws.{sum-le, sum-same}
-use Rattle.laws.specs.Rising.{sum-many, sum-const}
 use Rattle.laws.specs.Values.{vec}
 use Rattle.stable_theory.specs.Stable.Market.{Market, Proper}
 use Rattle.stable_theory.specs.Stable.Vector.{Stable, Mirror}
@@ -18,13 +15,11 @@ use Rattle.stable_theory.specs.Least.Optimal.{proposer-optimal}
 use Rattle.stable_theory.specs.Rotations.Rotation.{Rotation, Exposed, SamePairs, eliminate}
 use Rattle.stable_theory.specs.Rotations.ExtraVector.{vector-sym}
 use Rattle.stable_theory.specs.Rotations.Numbering.{lowest, rotationAt, total, rotation}
-use Rattle.stable_theory.specs.Rotations.Eliminate.{eliminate-after, turn-at, turn-moved}
 use Rattle.stable_theory.specs.Rotations.EliminateStable.{eliminate-stable}
 use Rattle.stable_theory.specs.Rotations.EliminateMirror.{TurnedBack, eliminate-mirror, eliminate-mirror-before}
 use Rattle.stable_theory.specs.Rotations.SameRotation.{same-sym, exposed-agree, eliminate-agree}
 use Rattle.stable_theory.specs.Rotations.RotationAt.{rotationAt-first}
 use Rattle.stable_theory.specs.Rotations.Choose.{lowest-exposed, lowest-upto}
-use Rattle.stable_theory.specs.Rotations.RotationCount.{two-pairs}
 use Rattle.stable_theory.specs.Rotations.Subset.{after, prefix}
 use Rattle.stable_theory.specs.Rotations.Rebuild.{prefix-on}
 use Rattle.stable_theory.specs.Rotations.Canonical.{rotations-canonical}
@@ -32,42 +27,15 @@ use Rattle.stable_theory.specs.Rotations.CanonicalStep.{step-on, step-is, step-
 use Rattle.stable_theory.specs.Rotations.RotationAlike.{eliminate-same}
 use Rattle.rotation_search.specs.Pointers.{Advanced, State}
 use Rattle.rotation_search.specs.Laws.Pointers.{advanced-better}
+use Rattle.rotation_elimination.specs.Room.{Room}
+use Rattle.rotation_elimination.specs.Laws.Room.{room-after, room-now}
 use Rattle.rotation_elimination.specs.Written.{rotationIn, Written, Lists, WroteCycle}
 use Rattle.rotation_elimination.specs.Elimination.{Turnable, Eliminating, Eliminable}
 use Rattle.rotation_elimination.specs.Laws.Written.{offset-ge, written-in, written-same, lists-none, lists-more, exposed-turnable, turnable-same}
 use Rattle.rotation_elimination.specs.Laws.EliminateCode.{men-eliminated, women-turned}
 use Rattle.rotation_elimination.specs.Laws.WriteCode.{cycle-exposed}
 use Rattle.rotation_numbering.specs.Laws.ListBytes.{lists-within}
-use Rattle.rotation_numbering.specs.Numbering.{lowestRotation, OneTurn, Turned, none, one, Room, Numbered}
-
-module _ {I : Market} (M : Proper I) {p : ℕ → ℕ} {ρ : Rotation} (X : Exposed I p ρ) where
-  -- an elimination raises the sum of the places by one a pair at least
-  sum-raised : sum (I .proposers .size) p + ρ .pairs ≤ sum (I .proposers .size) (eliminate I ρ p)
-  sum-raised =
-      sum-many (I .proposers .size) p (eliminate I ρ p) (ρ .man) (ρ .pairs) (eliminate-after X) (λ k h. X .next h .pair .proposer) (X .distinct)
-      (λ k h. turn-moved X (turn-at X k h))
-
--- the sum of the places is at most one for each place
-sum-within : {I : Market} {p : ℕ → ℕ} (b : ℕ) → Stable I p → ((i : ℕ) → i < I .proposers .size → I .proposers .len i ≤ b) → sum (I .proposers .size) p ≤ I .proposers .size * b
-sum-within {I} {p} b P short =
-    omega (
-      arith,
-      sum-le (I .proposers .size) p (λ i. b) (λ i u. omega (arith, P .settled .within .bound u, short i u)),
-      sum-const (I .proposers .size) b (λ i. b) (λ i u. refl),
-    )
-
--- so there is room for a rotation that is exposed, and for what comes after it
-module _ {I : Market} (M : Proper I) {p : ℕ → ℕ} (P : Stable I p) {ρ : Rotation} (X : Exposed I p ρ) {at b : ℕ} {l : List ℕ} (R : Room (I .proposers .size) b p at l) where
-  room-after : {q : ℕ → ℕ} → Same I q (eliminate I ρ p) → {m : List ℕ} → length m ≡ length l → {c : ℕ} → c ≡ ρ .pairs → Room (I .proposers .size) b q (at + (1 + 2 * c)) m
-  room-after {q} e {m} s d =
-      record {
-        used = omega (arith, R .used, sum-raised M X, two-pairs X, sum-same (I .proposers .size) q (eliminate I ρ p) e);
-        whole = omega (arith, R .whole);
-      }
-
-  room-now : ((i : ℕ) → i < I .proposers .size → I .proposers .len i ≤ b) → at + 1 + 2 * ρ .pairs ≤ length l
-  room-now short =
-      omega (arith, R .used, R .whole, sum-raised M X, two-pairs X, sum-within b (eliminate-stable M P X) short)
+use Rattle.rotation_numbering.specs.Numbering.{lowestRotation, OneTurn, Turned, none, one, Numbered}
 
 -- rotations with the same pairs turn the women alike
 turned-same : {I : Market} {ρ σ : Rotation} {t u : ℕ → ℕ} → SamePairs ρ σ → TurnedBack I ρ t u → TurnedBack I σ t u
@@ -123,7 +91,7 @@ module _ {a b : ℕ} {plists rlists rranks : List ℕ} (T : Sound (tablesOf a b 
         unfolding rotationIn
         written-turned =
             let R = turnable-in in
-            turned-same same-in (women-turned E (marketOf a b plists rlists) (λ k g. T .agrees .rank (R .women g) (R .men g)))
+            turned-same same-in (women-turned (marketOf a b plists rlists) a rranks (rotationIn l at) (E .women) (λ k g. T .agrees .rank (R .women g) (R .men g)))
 
         -- which gives the next state
         written-state : {next : ℕ → ℕ} → Mirror (marketOf a b plists rlists) (vec p) (vec t) → Advanced (marketOf a b plists rlists) (vec t) next →
