@@ -1,0 +1,39 @@
+// The rotations in order of number. They stand in `pairs` in any order, number q from index begin[q] on; t has the
+// women's places, `left` for how many women each rotation waits, and `waits` says for whom.
+use crate::queue::enter_all;
+use crate::queue::lowest;
+use rotation_release::turn;
+use tables::wide;
+ghost use mathlib.Core.Path.{_≡_};
+ghost use Prim.Native.Nat.{ℕ, _+_, _*_, _≤_, _<_};
+ghost use lib.ListN.{length};
+ghost use Rattle.laws.specs.Moment.{now₀, now₁, vec₀, vec₁};
+ghost use Rattle.laws.specs.Values.{vec};
+ghost use Rattle.tables.specs.Lists.{Tables, tables, market, Sound};
+ghost use Rattle.rotation_waits.specs.AllRotations.{AllRotations};
+ghost use Rattle.rotation_release.specs.Counts.{Counts};
+ghost use Rattle.rotation_ordering.specs.Ordering.{Copied, Ordered, Numbered};
+
+// How far the list is: how many rotations stand in it, where they end, and a man before whom none is the first man of a
+// rotation of the queue.
+pub(crate) struct Progress {
+    pub(crate) count: usize,
+    pub(crate) end: usize,
+    pub(crate) low: usize,
+}
+
+// Writes the rotation that stands in `pairs` from index `from` on into the list from index `at` on. The answer is where
+// it ends there.
+fn copy(pairs: &[u16], from: usize, list: &mut [u16], at: usize) -> usize
+    requires { ⌜ from + 1 + 2 * vec (now pairs) from ≤ length (now pairs) ⌝ }
+    requires { ⌜ at + 1 + 2 * vec (now pairs) from ≤ length (now list) ⌝ }
+    ensures { λ r. ⌜ Copied (now₀ pairs) from (now₀ list) at (now₁ list) r ⌝ }
+{
+    let size = 1 + 2 * wide(pairs[from]);
+    let mut k = 0;
+    while k < size {
+        list[at + k] = pairs[from + k];
+        k += 1;
+    }
+    at + size
+}
