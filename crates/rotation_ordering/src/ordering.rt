@@ -37,3 +37,38 @@ fn copy(pairs: &[u16], from: usize, list: &mut [u16], at: usize) -> usize
     }
     at + size
 }
+
+// Writes the rotation of the queue that has the lowest first man, takes it out, and turns its women. There is one.
+fn next(
+    n: usize,
+    mlists: &[u16],
+    wlists: &[u16],
+    wranks: &[u16],
+    waits: &[u16],
+    pairs: &[u16],
+    begin: &[u16],
+    t: &mut [u16],
+    left: &mut [u16],
+    ready: &mut [u16],
+    list: &mut [u16],
+    at: Progress,
+) -> Progress
+    ghost { Tables }
+    requires { λ K. ⌜ tables n n mlists wlists wranks ≡ K ⌝ }
+    requires { λ K. ⌜ Sound K × AllRotations (market K) (now pairs) (now begin) (now waits) ⌝ }
+    requires { λ K. ⌜ Ordered (market K) (now pairs) (now begin) (now waits) (now t) (now left) (now ready) (now list)
+        (at .count) (at .end) (at .low) ⌝ }
+    requires { λ _. ⌜ at .count < length (now begin) ⌝ }
+    ensures { λ K r. ⌜ Ordered (market K) (now₀ pairs) (now₀ begin) (now₀ waits) (now₁ t) (now₁ left) (now₁ ready) (now₁ list)
+        (r .count) (r .end) (r .low) ⌝ }
+    ensures { λ _ r. ⌜ r .count ≡ at .count + 1 ⌝ }
+{
+    let count = at.count + 1;
+    let m = lowest(ready, at.low);
+    let q = wide(ready[m]) - 1;
+    let from = wide(begin[q]);
+    ready[m] = 0;
+    let end = copy(pairs, from, list, at.end);
+    let low = turn(n, wranks, waits, pairs, begin, t, left, ready, from, m);
+    Progress { count, end, low }
+}

@@ -18,7 +18,8 @@ numbered pairs begin q = rotationIn pairs (vec begin q)
 
 -- The rotations so numbered are all, and the table says for whom each waits at the women's places `best` in the
 -- proposers' best matching
-pub record AllRotations (I : Market) (best : ℕ → ℕ) (pairs begin waits : List ℕ) : Type 0 where
+pub record AllRotations (I : Market) (pairs begin waits : List ℕ) : Type 0 where
+  pub best : ℕ → ℕ
   pub unordered : Unordered I (length begin) (numbered pairs begin)
   pub inside : {q : ℕ} → q < length begin → vec begin q + 1 + 2 * vec pairs (vec begin q) ≤ length pairs
   pub mirror : Mirror I (proposer-optimal I) best

@@ -15,15 +15,23 @@ use Rattle.stable_theory.specs.Rotations.Eliminate.{eliminate-after}
 use Rattle.stable_theory.specs.Rotations.ExtraVector.{vector-sym}
 use Rattle.stable_theory.specs.Rotations.SameRotation.{same-sym, same-trans, exposed-same, exposed-agree}
 use Rattle.stable_theory.specs.Rotations.Subset.{prefix}
+use Rattle.stable_theory.specs.Rotations.Rebuild.{best-first}
 use Rattle.stable_theory.specs.Rotations.Canonical.{rotations-canonical}
 use Rattle.stable_theory.specs.Rotations.CanonicalStep.{step-is, exposed-once}
-use Rattle.stable_theory.specs.Rotations.OneRotation.{numbered, newly-passed, passed-later, eliminated-passed}
+use Rattle.stable_theory.specs.Rotations.OneRotation.{numbered, newly-passed, passed-later, eliminated-passed, exposed-not}
 
 -- a rotation of the market: it is exposed in some stable vector
 pub record IsRotation (I : Market) (ρ : Rotation) : Type 0 where
   pub vector : ℕ → ℕ
   pub stable : Stable I vector
   pub exposed : Exposed I vector ρ
+
+-- the proposers' best vector is past none
+pub rotation-first : {I : Market} (M : Proper I) {ρ : Rotation} → IsRotation I ρ → passed I ρ (proposer-optimal I) ≡ false
+rotation-first {I} M {ρ} R =
+    tested (passed I ρ (proposer-optimal I))
+    (λ e. absurd (clash (passed-later (R .exposed) (best-first M (R .stable)) e) (exposed-not M (R .stable) (R .exposed))))
+    (λ e. e)
 
 -- σ 0, …, σ (z - 1) are the rotations of the market
 pub record Unordered (I : Market) (z : ℕ) (σ : ℕ → Rotation) : Type 0 where
