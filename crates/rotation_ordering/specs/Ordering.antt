@@ -39,6 +39,17 @@ pub record Ordered (I : Market) (pairs begin waits t left ready list : List ℕ)
   pub lists : Lists (rotation I) k list end
   pub room : Room (I .proposers .size) (I .receivers .size) (reached I k) end list
 
+-- no rotation is written: t has the women's places in the proposers' best matching, the counts are those for t, the
+-- queue is empty, and there is room for all rotations in the list
+pub record Unwritten (I : Market) (begin waits t left ready list : List ℕ) : Type 0 where
+  pub mirror : Mirror I (proposer-optimal I) (vec t)
+  pub counts : Counts (I .proposers .size) waits t left
+  pub long : length left ≡ length begin
+  pub few : length begin < 65535
+  pub men : length ready ≡ I .proposers .size
+  pub empty : (m : ℕ) → vec ready m ≡ 0
+  pub room : 5 * (I .proposers .size * I .receivers .size) ≤ 2 * length list
+
 -- the list holds all rotations, k of them, and ends at `end`
 pub record Numbered (I : Market) (l : List ℕ) (k end : ℕ) : Type 0 where
   pub count : k ≡ total I

@@ -2,3 +2,5 @@
 // the one with the lowest first man is written next and eliminated.
 mod ordering;
 mod queue;
+
+pub use ordering::order;

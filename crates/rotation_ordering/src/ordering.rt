@@ -5,14 +5,13 @@ use crate::queue::lowest;
 use rotation_release::turn;
 use tables::wide;
 ghost use mathlib.Core.Path.{_≡_};
-ghost use Prim.Native.Nat.{ℕ, _+_, _*_, _≤_, _<_};
+ghost use Prim.Native.Nat.{_+_, _*_, _≤_, _<_};
 ghost use lib.ListN.{length};
-ghost use Rattle.laws.specs.Moment.{now₀, now₁, vec₀, vec₁};
+ghost use Rattle.laws.specs.Moment.{now₀, now₁};
 ghost use Rattle.laws.specs.Values.{vec};
 ghost use Rattle.tables.specs.Lists.{Tables, tables, market, Sound};
 ghost use Rattle.rotation_waits.specs.AllRotations.{AllRotations};
-ghost use Rattle.rotation_release.specs.Counts.{Counts};
-ghost use Rattle.rotation_ordering.specs.Ordering.{Copied, Ordered, Numbered};
+ghost use Rattle.rotation_ordering.specs.Ordering.{Copied, Ordered, Unwritten, Numbered};
 
 // How far the list is: how many rotations stand in it, where they end, and a man before whom none is the first man of a
 // rotation of the queue.
@@ -71,4 +70,50 @@ fn next(
     let end = copy(pairs, from, list, at.end);
     let low = turn(n, wranks, waits, pairs, begin, t, left, ready, from, m);
     Progress { count, end, low }
+}
+
+// Writes all rotations into the list, end to end in order of number. The answer is where they end. t has the women's
+// places in the student-best matching.
+pub fn order(
+    n: usize,
+    mlists: &[u16],
+    wlists: &[u16],
+    wranks: &[u16],
+    waits: &[u16],
+    pairs: &[u16],
+    begin: &[u16],
+    t: &mut [u16],
+    left: &mut [u16],
+    ready: &mut [u16],
+    list: &mut [u16],
+) -> usize
+    ghost { Tables }
+    requires { λ K. ⌜ tables n n mlists wlists wranks ≡ K ⌝ }
+    requires { λ K. ⌜ Sound K × AllRotations (market K) (now pairs) (now begin) (now waits) ⌝ }
+    requires { λ K. ⌜ Unwritten (market K) (now begin) (now waits) (now t) (now left) (now ready) (now list) ⌝ }
+    ensures { λ K r. ⌜ Numbered (market K) (now₁ list) (length (now₀ begin)) r ⌝ }
+{
+    enter_all(pairs, begin, left, ready);
+    let mut at = Progress {
+        count: 0,
+        end: 0,
+        low: 0,
+    };
+    while at.count < begin.len() {
+        at = next(
+            n,
+            mlists,
+            wlists,
+            wranks,
+            waits,
+            pairs,
+            begin,
+            t,
+            left,
+            ready,
+            list,
+            at,
+        );
+    }
+    at.end
 }

@@ -34,8 +34,8 @@ use Rattle.rotation_waits.specs.Laws.Queue.{queue-start, queue-turn}
 use Rattle.rotation_release.specs.Rotations.{firstMan, Names}
 use Rattle.rotation_release.specs.Counts.{Counts}
 use Rattle.rotation_release.specs.Turning.{Improves, WomenTurned}
-use Rattle.rotation_ordering.specs.Queue.{SomeFrom, FirstFrom}
-use Rattle.rotation_ordering.specs.Ordering.{Copied, reached, Ordered, Numbered}
+use Rattle.rotation_ordering.specs.Queue.{Enterable, SomeFrom, FirstFrom}
+use Rattle.rotation_ordering.specs.Ordering.{Copied, reached, Ordered, Unwritten, Numbered}
 
 -- the first man read is the rotation's
 pub first-man : (pairs begin : List ℕ) (q : ℕ) → 0 < numbered pairs begin q .pairs → firstMan pairs begin q ≡ numbered pairs begin q .man 0
@@ -65,28 +65,40 @@ module _ {n : ℕ} {mlists wlists wranks : List ℕ} (T : Sound (tablesOf n n ml
         names = λ h g. omega (arith, A .noted .names h g);
       }
 
-  -- before the first: each rotation that waits for nobody has entered the queue
-  pub ordered-start :
-      {t left ready list : List ℕ} {empty : ℕ → ℕ} → Mirror (marketOf n n mlists wlists) (proposer-optimal (marketOf n n mlists wlists)) (vec t) → Counts n waits t left →
-      length left ≡ length begin → length ready ≡ n → ((m : ℕ) → empty m ≡ 0) → Entered (length left) (firstMan pairs begin) (vec left) empty (vec ready) →
-      5 * (n * n) ≤ 2 * length list → Ordered (marketOf n n mlists wlists) pairs begin waits t left ready list 0 0 0
-  unfolding after
-  ordered-start {t} {left} {ready} {list} {empty} N C p w zero E room =
-      let I = marketOf n n mlists wlists in
-      let P = proposer-optimal-stable (T .proper) in
-      let E₂ : Entered (length begin) (firstMan pairs begin) (vec left) empty (vec ready) = rw p at E in
-      record {
-        within = omega arith;
-        mirror = N;
-        counts = C;
-        long = p;
-        men = w;
-        queue = queue-start (T .proper) (A .unordered) (A .noted) first-at P N (mirror-order (T .proper) (A .mirror) N P (λ i u. omega arith))
-            (λ q h. C .counts (omega arith)) (λ q h. rotation-first (T .proper) (A .unordered .each h)) zero E₂;
-        bound = λ i h. absurd (omega arith);
-        lists = lists-none (rotation I) list;
-        room = record { used = omega arith; whole = room };
-      }
+  -- before the first
+  module _ {t left queue list : List ℕ} (S : Unwritten (marketOf n n mlists wlists) begin waits t left queue list) where
+    -- the rotations can enter the queue
+    pub start-enterable : Enterable pairs begin left queue
+    start-enterable =
+        let N = all-names (S .long) in
+        record {
+          few = omega (arith, S .few, S .long);
+          begins = N .begins;
+          inside = λ h. N .inside h;
+          man = λ {q} h. omega (arith, N .men {q = q} h, S .men);
+        }
+
+    -- and those that wait for nobody have
+    pub ordered-start :
+        {ready : List ℕ} → length ready ≡ length queue → Entered (length left) (firstMan pairs begin) (vec left) (vec queue) (vec ready) →
+        Ordered (marketOf n n mlists wlists) pairs begin waits t left ready list 0 0 0
+    unfolding after
+    ordered-start {ready} w E =
+        let P = proposer-optimal-stable (T .proper) in
+        let N = S .mirror in
+        let E₂ : Entered (length begin) (firstMan pairs begin) (vec left) (vec queue) (vec ready) = rw (S .long) at E in
+        record {
+          within = omega arith;
+          mirror = N;
+          counts = S .counts;
+          long = S .long;
+          men = w ∙ S .men;
+          queue = queue-start (T .proper) (A .unordered) (A .noted) first-at P N (mirror-order (T .proper) (A .mirror) N P (λ i u. omega arith))
+              (λ q h. S .counts .counts (omega (arith, S .long))) (λ q h. rotation-first (T .proper) (A .unordered .each h)) (S .empty) E₂;
+          bound = λ i h. absurd (omega arith);
+          lists = lists-none (rotation (marketOf n n mlists wlists)) list;
+          room = record { used = omega arith; whole = S .room };
+        }
 
   module _ {t left ready list : List ℕ} {k end low : ℕ} (O : Ordered (marketOf n n mlists wlists) pairs begin waits t left ready list k end low) where
     -- the vector reached is stable
