@@ -1,17 +1,19 @@
 -- Laws of the number of women for whom a rotation waits: it is 0 just where the rotation is not named before any
 -- woman's place, and it falls by one for each cell with its name that a woman's place goes up past. Assumes nothing.
-use Prim.Native.Nat.{ℕ, suc, _+_, _≤_, _<_}
+use Prim.Native.Nat.{ℕ, suc, _+_, _*_, _≤_, _<_}
 use mathlib.Core.Path.{_≡_, refl, sym, _∙_, ap}
 use mathlib.Core.Bool.{Bool}
 use mathlib.Core.List.{List}
 use native.Mathlib.Omega.{arith}
 use lib.Dec.{eqb}
+use lib.ListN.{length, set}
+use lib.Seq.{getD-set-same, getD-set-other}
 use borrow.Author.Tests.{eq-eqb, ne-eqb}
 use Rattle.laws.specs.Choice.{pick, same}
 use Rattle.laws.specs.First.{clash}
 use Rattle.laws.specs.Sum.{sum, count}
 use Rattle.laws.specs.SumLaws.{sum-same, sum-grown-below, sum-none, sum-zero, count-none, count-zero}
-use Rattle.laws.specs.Table.{cell}
+use Rattle.laws.specs.Table.{cell, cell-row, cell-column}
 use Rattle.laws.specs.Changed.{Changed}
 use Rattle.rotation_waits.specs.Waits.{waitsLeft}
 
@@ -69,3 +71,43 @@ module _ (a b : ℕ) (waits : List ℕ) where
     left-end {x} {u} C q =
         left-same (placed v x t) u
         (λ w l. same w v (λ f. rw f (placed-here v x t ∙ sym (C .here))) (λ ne. placed-other v x t ne ∙ sym (C .others w ne))) q
+
+-- A name is written into an empty cell, before the place of the woman of its row
+module _ {a b : ℕ} (old : List ℕ) (name : ℕ) {t : ℕ → ℕ} (short : (w : ℕ) → w < b → t w ≤ a) {w r : ℕ} (h : w < b) (l : r < t w) (inside : w * a + r < length old) (blank : cell old a w r ≡ 0) where
+  -- the other cells are as they were
+  pub other-cell : {v x : ℕ} → v < b → x < a → ((v ≡ w) × (x ≡ r) → ⊥) → cell (set old (w * a + r) name) a v x ≡ cell old a v x
+  other-cell {v} {x} g u ne =
+      let k : r < a = omega (arith, short w h) in
+      getD-set-other old (w * a + r) (v * a + x) name 0 (λ e. ne (cell-row u k e, cell-column v w u k e))
+
+  pub that-cell : cell (set old (w * a + r) name) a w r ≡ name
+  that-cell = getD-set-same old (w * a + r) name 0 inside
+
+  -- the rotation of this name waits for one woman more
+  pub left-named : {q : ℕ} → suc q ≡ name → waitsLeft a b (set old (w * a + r) name) t q ≡ waitsLeft a b old t q + 1
+  unfolding waitsLeft
+  left-named {q} e =
+      let new = set old (w * a + r) name in
+      sum-grown-below b (λ v. count (t v) (λ x. eqb (cell old a v x) (suc q))) (λ v. count (t v) (λ x. eqb (cell new a v x) (suc q))) w 1 h
+      (sum-grown-below (t w) (λ x. pick (eqb (cell old a w x) (suc q)) 1 0) (λ x. pick (eqb (cell new a w x) (suc q)) 1 0) r 1 l
+      (let c = ne-eqb (cell old a w r) (suc q) (λ z. omega arith) in
+      let d = eq-eqb (cell new a w r) (suc q) (that-cell ∙ sym e) in
+      rw (c, d) (omega arith))
+      (λ x g ne. ap (λ (y : ℕ). pick {A = ℕ} (eqb y (suc q)) 1 0) (other-cell h (omega (arith, short w h)) (λ z. ne (z .1)))))
+      (λ v g ne. sum-same (t v) (λ x. pick (eqb (cell new a v x) (suc q)) 1 0) (λ x. pick (eqb (cell old a v x) (suc q)) 1 0)
+      (λ x u. ap (λ (y : ℕ). pick {A = ℕ} (eqb y (suc q)) 1 0) (other-cell g (omega (arith, short v g)) (λ z. ne (z .0)))))
+
+  -- and each other for as many as before
+  pub left-other : {q : ℕ} → (suc q ≡ name → ⊥) → waitsLeft a b (set old (w * a + r) name) t q ≡ waitsLeft a b old t q
+  unfolding waitsLeft
+  left-other {q} o =
+      let new = set old (w * a + r) name in
+      sum-same b (λ v. count (t v) (λ x. eqb (cell new a v x) (suc q))) (λ v. count (t v) (λ x. eqb (cell old a v x) (suc q)))
+      (λ v g. sum-same (t v) (λ x. pick (eqb (cell new a v x) (suc q)) 1 0) (λ x. pick (eqb (cell old a v x) (suc q)) 1 0)
+      (λ x u. same v w
+      (λ s. same x r
+      (λ z. let c = ne-eqb (cell old a w r) (suc q) (λ y. omega arith) in
+      let d = ne-eqb (cell new a w r) (suc q) (λ y. o (sym y ∙ that-cell)) in
+      rw (s, z, c, d))
+      (λ z. ap (λ (y : ℕ). pick {A = ℕ} (eqb y (suc q)) 1 0) (other-cell g (omega (arith, short v g)) (λ y. z (y .1)))))
+      (λ s. ap (λ (y : ℕ). pick {A = ℕ} (eqb y (suc q)) 1 0) (other-cell g (omega (arith, short v g)) (λ y. s (y .0))))))

@@ -1,0 +1,2 @@
+-- Laws of what is written down. Assumes nothing.
+pub mod ManNoted
