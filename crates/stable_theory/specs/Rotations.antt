@@ -12,6 +12,7 @@ pub mod SameRotation
 pub mod RotationAt
 pub mod Choose
 pub mod FollowerCycle
+pub mod CycleFrom
 pub mod Subset
 pub mod Canonical
 pub mod Rebuild
