@@ -1,2 +1,3 @@
 -- Laws of what is written down. Assumes nothing.
 pub mod ManNoted
+pub mod RotationNoted

@@ -1,4 +1,5 @@
--- A rotation that is found is written down: ManNoted has what contracts cite, Laws what only proofs cite. Assumes
--- nothing.
+-- A rotation that is found is written down: ManNoted and RotationNoted have what contracts cite, Laws what only
+-- proofs cite. Assumes nothing.
 pub mod ManNoted
+pub mod RotationNoted
 pub mod Laws

@@ -2,6 +2,7 @@
 -- nothing.
 use Prim.Native.Nat.{ℕ, suc, _+_, _*_, _≤_, _<_}
 use mathlib.Core.Path.{_≡_}
+use mathlib.Core.Logic.{_⊎_}
 use mathlib.Core.List.{List}
 use lib.ListN.{length}
 use Rattle.laws.specs.Table.{cell}
@@ -31,14 +32,22 @@ pub record Blank (I : Market) (best : ℕ → ℕ) (waits : List ℕ) (m from to
   pub short : to ≤ I .proposers .len m
   pub blank : {k : ℕ} → from ≤ k → k < to → Prefers I best m k → cellOf I waits m k ≡ 0
 
--- the name stands there now, and nothing else has changed; so the rotation of this name waits for so many women more
+-- the cell at rank x of w's row is man m's, and she is one of those women
+pub record NotedFor (I : Market) (best : ℕ → ℕ) (m from to w x : ℕ) : Type 0 where
+  pub place : ℕ
+  pub low : from ≤ place
+  pub high : place < to
+  pub woman : w ≡ I .proposers .at m place
+  pub rank : x ≡ I .receivers .place w m
+  pub prefers : x < best w
+
+-- the name stands there now, and every other cell is as it was; so the rotation of this name waits for so many women more
 pub record ManNoted (I : Market) (best : ℕ → ℕ) (name m from to : ℕ) (before waits : List ℕ) (count : ℕ) : Type 0 where
   pub long : length waits ≡ length before
   pub noted : {k : ℕ} → from ≤ k → k < to → Prefers I best m k → cellOf I waits m k ≡ name
-  pub kept :
+  pub each :
       {w x : ℕ} → w < I .receivers .size → x < I .proposers .size →
-      ((k : ℕ) → from ≤ k → k < to → w ≡ I .proposers .at m k → x ≡ I .receivers .place w m → Prefers I best m k → ⊥) →
-      cell waits (I .proposers .size) w x ≡ cell before (I .proposers .size) w x
+      (cell waits (I .proposers .size) w x ≡ cell before (I .proposers .size) w x) ⊎ NotedFor I best m from to w x
   pub more :
       {q : ℕ} → suc q ≡ name →
       waitsLeft (I .proposers .size) (I .receivers .size) waits best q ≡ waitsLeft (I .proposers .size) (I .receivers .size) before best q + count

@@ -1,10 +1,11 @@
 -- The women past whom a rotation moves one of its men are noted, place by place. Assumes nothing.
 use Prim.Native.Nat.{ℕ, suc, _+_, _*_, _≤_, _<_}
 use mathlib.Core.Path.{_≡_, refl, sym, _∙_, ap}
+use mathlib.Core.Logic.{inl, inr, ⊎-elim}
 use mathlib.Core.List.{List}
 use native.Mathlib.Omega.{arith}
 use lib.ListN.{length, set, length-set}
-use Rattle.laws.specs.Choice.{split}
+use Rattle.laws.specs.Choice.{split, same}
 use Rattle.laws.specs.Table.{cell, cell-lt}
 use Rattle.laws.specs.Values.{vec}
 use Rattle.tables.specs.Lists.{tablesOf, Sound, marketOf, atIn}
@@ -12,11 +13,25 @@ use Rattle.tables.specs.Laws.Rows.{stored-index, rank-index}
 use Rattle.stable_theory.specs.Stable.Market.{Market, Proper}
 use Rattle.stable_theory.specs.Stable.Holding.{accept-at}
 use Rattle.rotation_waits.specs.Laws.Left.{other-cell, that-cell, left-named, left-other}
-use Rattle.rotation_notes.specs.ManNoted.{Fits, Prefers, cellOf, Blank, ManNoted}
+use Rattle.rotation_notes.specs.ManNoted.{Fits, Prefers, cellOf, Blank, NotedFor, ManNoted}
 
 -- a table of the same size fits too
 pub fits-still : {n : ℕ} {best waits mid : List ℕ} {name : ℕ} → Fits n best waits name → length mid ≡ length waits → Fits n best mid name
 fits-still F e = record { places = F .places; short = F .short; cells = omega (arith, F .cells); small = F .small }
+
+-- two pairs of numbers are the same, or not
+both-same : {C : Type 0} (v w x r : ℕ) → (v ≡ w → x ≡ r → C) → (((v ≡ w) × (x ≡ r) → ⊥) → C) → C
+both-same v w x r here other =
+    same v w (λ e. same x r (λ d. here e d) (λ d. other (λ z. d (z .1)))) (λ e. other (λ z. e (z .0)))
+
+-- a woman between two places is one between wider ones
+noted-from : {I : Market} {best : ℕ → ℕ} {m from k to w x : ℕ} → from ≤ k → NotedFor I best m k to w x → NotedFor I best m from to w x
+noted-from l f =
+    record { place = f .place; low = omega (arith, f .low); high = f .high; woman = f .woman; rank = f .rank; prefers = f .prefers }
+
+noted-upto : {I : Market} {best : ℕ → ℕ} {m from k to w x : ℕ} → k ≤ to → NotedFor I best m from k w x → NotedFor I best m from to w x
+noted-upto l f =
+    record { place = f .place; low = f .low; high = omega (arith, f .high); woman = f .woman; rank = f .rank; prefers = f .prefers }
 
 -- none at all
 pub noted-start : (I : Market) (best : ℕ → ℕ) (name m from : ℕ) (waits : List ℕ) → ManNoted I best name m from from waits waits 0
@@ -24,7 +39,7 @@ noted-start I best name m from waits =
     record {
       long = refl;
       noted = λ l h p. absurd (omega arith);
-      kept = λ u v none. refl;
+      each = λ u v. inl refl;
       more = λ e. omega arith;
       others = λ ne. refl;
     }
@@ -53,8 +68,9 @@ module _ {n : ℕ} {mlists wlists wranks : List ℕ} (T : Sound (tablesOf n n ml
     still {j = j} N h v out =
         let u = B .man in
         let l : j < marketOf n n mlists wlists .proposers .len m = omega (arith, B .short) in
-        N .kept (woman-row u l) (rank-column u l)
-        (λ i a b e _ _. let s = apart u l (omega (arith, B .short)) e in out (omega arith) (omega arith))
+        ⊎-elim (λ e. e)
+        (λ f. let s = apart u l (omega (arith, B .short, f .high)) (f .woman) in absurd (out (omega (arith, f .low)) (omega (arith, f .high))))
+        (N .each (woman-row u l) (rank-column u l))
 
     module _ {name k : ℕ} {mid : List ℕ} {c : ℕ} (f : from ≤ k) (g : k ≤ to) (N : ManNoted (marketOf n n mlists wlists) best name m from k before mid c) where
       -- the women before place k and then those from it on
@@ -64,7 +80,10 @@ module _ {n : ℕ} {mlists wlists wranks : List ℕ} (T : Sound (tablesOf n n ml
           record {
             long = O .long ∙ N .long;
             noted = λ {k = j} l h p. split k j (λ u. O .noted u h p) (λ u. still O h (omega arith) (λ a b. omega arith) ∙ N .noted l u p);
-            kept = λ u v none. O .kept u v (λ j l h. none j (omega arith) h) ∙ N .kept u v (λ j l h. none j l (omega arith));
+            each = λ u v. ⊎-elim
+                (λ e. ⊎-elim (λ d. inl (e ∙ d)) (λ x. inr (noted-upto g x)) (N .each u v))
+                (λ x. inr (noted-from f x))
+                (O .each u v);
             more = λ e. omega (arith, N .more e, O .more e);
             others = λ ne. O .others ne ∙ N .others ne;
           }
@@ -121,7 +140,7 @@ module _ {n : ℕ} {mlists wlists wranks : List ℕ} (T : Sound (tablesOf n n ml
               noted = λ {k = j} a b p. let s : j ≡ k = omega arith in
                   let q : Prefers (marketOf n n mlists wlists) (vec best) m k = rw s at p in
                   absurd (omega (arith, rank, ap (vec best) ew));
-              kept = λ u v none. refl;
+              each = λ u v. inl refl;
               more = λ e. omega arith;
               others = λ ne. refl;
             }
@@ -143,8 +162,16 @@ module _ {n : ℕ} {mlists wlists wranks : List ℕ} (T : Sound (tablesOf n n ml
                 long = length-set waits (w * n + r) name;
                 noted = λ {k = j} a b p. let s : j ≡ k = omega arith in
                     rw (s, ← rank, ← ew) (that-cell waits name (λ v u. F .short u) at-woman l within empty);
-                kept = λ {w = v} {x} u g none. other-cell waits name (λ v u. F .short u) at-woman l within empty u g
-                    (λ (e, d). none k (omega arith) (omega arith) (e ∙ ew) (d ∙ (er ∙ (T .agrees .rank at-woman (B .man) ∙ ap (λ (i : ℕ). marketOf n n mlists wlists .receivers .place i m) (sym e)))) prefers);
+                each = λ {w = v} {x} u g. both-same v w x r
+                    (λ e d. inr record {
+                      place = k;
+                      low = omega arith;
+                      high = omega arith;
+                      woman = e ∙ ew;
+                      rank = d ∙ (er ∙ (T .agrees .rank at-woman (B .man) ∙ ap (λ (i : ℕ). marketOf n n mlists wlists .receivers .place i m) (sym e)));
+                      prefers = omega (arith, ap (vec best) e);
+                    })
+                    (λ ne. inl (other-cell waits name (λ v u. F .short u) at-woman l within empty u g ne));
                 more = λ e. left-named waits name (λ v u. F .short u) at-woman l within empty e;
                 others = λ ne. left-other waits name (λ v u. F .short u) at-woman l within empty ne;
               }
