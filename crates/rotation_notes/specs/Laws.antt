@@ -2,3 +2,4 @@
 pub mod ManNoted
 pub mod RotationNoted
 pub mod Noting
+pub mod Writing
