@@ -10,11 +10,12 @@ use Rattle.laws.specs.Values.{vec}
 use Rattle.stable_theory.specs.Stable.Market.{Market}
 use Rattle.rotation_waits.specs.Waits.{waitsLeft}
 
--- the women's places and the table have room for n persons, and the name fits
+-- the women's places and the table have room for n persons, and the name fits and is not 0
 pub record Fits (n : ℕ) (best waits : List ℕ) (name : ℕ) : Type 0 where
   pub places : n ≤ length best
   pub short : {w : ℕ} → w < n → vec best w ≤ n
   pub cells : n * n ≤ length waits
+  pub some : 0 < name
   pub small : name < 65536
 
 -- she at place k of m's list prefers him to the man at place `best`

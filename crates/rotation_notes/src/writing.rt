@@ -5,7 +5,7 @@ use rotation_path::number_at;
 use tables::entry;
 use tables::list_at;
 ghost use mathlib.Core.Path.{_≡_};
-ghost use Prim.Native.Nat.{_+_, _*_, _≤_, _<_};
+ghost use Prim.Native.Nat.{_+_, _-_, _*_, _≤_, _<_};
 ghost use lib.ListN.{length};
 ghost use Rattle.laws.specs.Moment.{now₀, now₁, vec₀};
 ghost use Rattle.laws.specs.Values.{vec};
@@ -14,6 +14,7 @@ ghost use Rattle.tables.specs.Lists.{Tables, tables, market, Sound};
 ghost use Rattle.rotation_path.specs.Path.{manAt, placeAt};
 ghost use Rattle.rotation_notes.specs.ManNoted.{Fits, Blank};
 ghost use Rattle.rotation_notes.specs.Writing.{LowerFrame, LowestFrame, PairNoted};
+ghost use Rattle.rotation_notes.specs.Writing.{CycleFrames, BlankExposed, RotationWritten};
 
 // Number y of the frames from `low` up to `depth`, in which `depth` is `low` again.
 fn wrap(low: usize, depth: usize, y: usize) -> usize
@@ -81,4 +82,58 @@ fn write_pair(
     pairs[i + 1] = list_at(mlists, n, m, place) as u16;
     let to = entry(frames, 4, x, 1);
     note(n, mlists, wlists, wranks, best, waits, m, place, to, name)
+}
+
+// Writes the rotation of the frames from `low` up to `depth` from index `at` of the list on, and notes for whom it
+// waits. The answer is for how many women.
+pub fn write(
+    n: usize,
+    mlists: &[u16],
+    wlists: &[u16],
+    wranks: &[u16],
+    best: &[u16],
+    p: &[u16],
+    frames: &[u16],
+    waits: &mut [u16],
+    pairs: &mut [u16],
+    low: usize,
+    depth: usize,
+    at: usize,
+    name: usize,
+) -> usize
+    ghost { Tables }
+    requires { λ K. ⌜ tables n n mlists wlists wranks ≡ K ⌝ }
+    requires { λ K. ⌜ Sound K × (n < 65536) ⌝ }
+    requires { λ _. ⌜ Fits n (now best) (now waits) name × (length (now p) ≡ n) ⌝ }
+    requires { λ _. ⌜ (depth * 4 ≤ length (now frames)) × (at + 1 + 2 * (depth - low) ≤ length (now pairs)) ⌝ }
+    requires { λ K. ⌜ CycleFrames (market K) (vec (now p)) (vec (now frames)) low depth ⌝ }
+    requires { λ K. ⌜ BlankExposed (market K) (vec (now p)) (vec (now best)) (now waits) ⌝ }
+    ensures { λ K r. ⌜ RotationWritten (market K) (vec₀ p) (vec₀ best) name at (depth - low) (now₀ pairs) (now₀ waits)
+        (now₁ pairs) (now₁ waits) r ⌝ }
+{
+    let first = lowest_frame(frames, low, depth);
+    let c = depth - low;
+    pairs[at] = c as u16;
+    let mut count = 0;
+    let mut k = 0;
+    while k < c {
+        let x = wrap(low, depth, first + k);
+        let i = at + 1 + 2 * k;
+        count += write_pair(
+            n,
+            mlists,
+            wlists,
+            wranks,
+            best,
+            p,
+            frames,
+            waits,
+            pairs,
+            x,
+            i,
+            name,
+        );
+        k += 1;
+    }
+    count
 }

@@ -17,7 +17,7 @@ use Rattle.rotation_notes.specs.ManNoted.{Fits, Prefers, cellOf, Blank, 
 
 -- a table of the same size fits too
 pub fits-still : {n : ℕ} {best waits mid : List ℕ} {name : ℕ} → Fits n best waits name → length mid ≡ length waits → Fits n best mid name
-fits-still F e = record { places = F .places; short = F .short; cells = omega (arith, F .cells); small = F .small }
+fits-still F e = record { places = F .places; short = F .short; cells = omega (arith, F .cells); some = F .some; small = F .small }
 
 -- two pairs of numbers are the same, or not
 both-same : {C : Type 0} (v w x r : ℕ) → (v ≡ w → x ≡ r → C) → (((v ≡ w) × (x ≡ r) → ⊥) → C) → C

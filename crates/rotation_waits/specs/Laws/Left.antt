@@ -12,7 +12,8 @@ use borrow.Author.Tests.{eq-eqb, ne-eqb}
 use Rattle.laws.specs.Choice.{pick, same}
 use Rattle.laws.specs.First.{clash}
 use Rattle.laws.specs.Sum.{sum, count}
-use Rattle.laws.specs.SumLaws.{sum-same, sum-grown-below, sum-none, sum-zero, count-none, count-zero}
+use Rattle.laws.specs.SumLaws.{sum-le, sum-same, sum-grown-below, sum-none, sum-zero, count-most, count-none, count-zero}
+use Rattle.laws.specs.Rising.{sum-const}
 use Rattle.laws.specs.Table.{cell, cell-row, cell-column}
 use Rattle.laws.specs.Changed.{Changed}
 use Rattle.rotation_waits.specs.Waits.{waitsLeft}
@@ -48,6 +49,17 @@ module _ (a b : ℕ) (waits : List ℕ) where
   none-left t q none =
       sum-none b (λ v. count (t v) (λ y. eqb (cell waits a v y) (suc q)))
       (λ w h. count-none (t w) (λ y. eqb (cell waits a w y) (suc q)) (λ x l. ne-eqb (cell waits a w x) (suc q) (none w x h l)))
+
+  -- there are no more women than cells
+  pub left-most : (t : ℕ → ℕ) → ((w : ℕ) → w < b → t w ≤ a) → (q : ℕ) → waitsLeft a b waits t q ≤ b * a
+  unfolding waitsLeft
+  left-most t short q =
+      let f : ℕ → ℕ = λ w. count (t w) (λ x. eqb (cell waits a w x) (suc q)) in
+      omega (
+        arith,
+        sum-le b f (λ w. a) (λ w h. omega (arith, count-most (t w) (λ x. eqb (cell waits a w x) (suc q)), short w h)),
+        sum-const b a (λ w. a) (λ w h. refl),
+      )
 
   module _ (t : ℕ → ℕ) {v : ℕ} where
     -- v's own place
