@@ -1,5 +1,5 @@
 -- A rotation written into a list, pair by pair, from the frames of a path. Assumes nothing.
-use Prim.Native.Nat.{ℕ, _+_, _≤_, _<_}
+use Prim.Native.Nat.{ℕ, _+_, _-_, _≤_, _<_}
 use mathlib.Core.Path.{_≡_}
 use mathlib.Core.Logic.{_⊎_}
 use mathlib.Core.List.{List}
@@ -42,11 +42,12 @@ pub record CycleFrames (I : Market) (p frames : ℕ → ℕ) (low c : ℕ) : Typ
 abbrev pub BlankExposed : Market → (ℕ → ℕ) → (ℕ → ℕ) → List ℕ → Type 0
 BlankExposed I p best waits = (ρ : Rotation) → Exposed I p ρ → BlankFor I best ρ waits
 
--- a rotation of c pairs that is exposed in p is written from index `at` on, and noted
-pub record RotationWritten (I : Market) (p best : ℕ → ℕ) (name at c : ℕ) (before table pairs waits : List ℕ) (count : ℕ) : Type 0 where
+-- a rotation of the men of the frames from `low` up to c that is exposed in p is written from index `at` on, and noted
+pub record RotationWritten (I : Market) (p best frames : ℕ → ℕ) (low c name at : ℕ) (before table pairs waits : List ℕ) (count : ℕ) : Type 0 where
   pub rotation : Rotation
   pub exposed : Exposed I p rotation
-  pub size : rotation .pairs ≡ c
+  pub first : (x : ℕ) × (low ≤ x) × (x < c) × (rotation .man 0 ≡ manAt frames x)
+  pub size : rotation .pairs ≡ c - low
   pub written : Written pairs at rotation
   pub kept : (v : ℕ) → v < at → vec pairs v ≡ vec before v
   pub noted : RotationNoted I best rotation name (rotation .pairs) table waits count

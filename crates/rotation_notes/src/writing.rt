@@ -108,8 +108,8 @@ pub fn write(
     requires { λ _. ⌜ (depth * 4 ≤ length (now frames)) × (at + 1 + 2 * (depth - low) ≤ length (now pairs)) ⌝ }
     requires { λ K. ⌜ CycleFrames (market K) (vec (now p)) (vec (now frames)) low depth ⌝ }
     requires { λ K. ⌜ BlankExposed (market K) (vec (now p)) (vec (now best)) (now waits) ⌝ }
-    ensures { λ K r. ⌜ RotationWritten (market K) (vec₀ p) (vec₀ best) name at (depth - low) (now₀ pairs) (now₀ waits)
-        (now₁ pairs) (now₁ waits) r ⌝ }
+    ensures { λ K r. ⌜ RotationWritten (market K) (vec₀ p) (vec₀ best) (vec₀ frames) low depth name at
+        (now₀ pairs) (now₀ waits) (now₁ pairs) (now₁ waits) r ⌝ }
 {
     let first = lowest_frame(frames, low, depth);
     let c = depth - low;

@@ -8,7 +8,7 @@ use lib.Seq.{getD-set-same, getD-set-other}
 use Rattle.laws.specs.Values.{vec}
 use Rattle.tables.specs.Lists.{tablesOf, Sound, marketOf}
 use Rattle.stable_theory.specs.Rotations.Rotation.{Rotation, Exposed}
-use Rattle.stable_theory.specs.Rotations.CycleFrom.{wrapped, wrapped-row, cycleFrom, row-next, row-woman, cycle-exposed}
+use Rattle.stable_theory.specs.Rotations.CycleFrom.{wrapped, wrapped-inside, wrapped-row, cycleFrom, row-next, row-woman, cycle-exposed}
 use Rattle.rotation_path.specs.Path.{manAt, placeAt, womanAt}
 use Rattle.rotation_waits.specs.Laws.Left.{left-most}
 use Rattle.rotation_notes.specs.ManNoted.{Fits, Blank}
@@ -29,7 +29,7 @@ pub record Writing (n : ℕ) (mlists wlists : List ℕ) (p best frames : ℕ →
 module _ {n : ℕ} {mlists wlists wranks : List ℕ} (T : Sound (tablesOf n n mlists wlists wranks)) {p frames : ℕ → ℕ} {low depth first : ℕ}
     (C : CycleFrames (marketOf n n mlists wlists) p frames low depth) (L : LowestFrame frames low depth first) where
   -- it is exposed
-  framed-exposed : Exposed (marketOf n n mlists wlists) p (framed n mlists wlists p frames low depth first)
+  pub framed-exposed : Exposed (marketOf n n mlists wlists) p (framed n mlists wlists p frames low depth first)
   framed-exposed = cycle-exposed (T .proper) (C .follows) (L .upward) (L .below) (C .once) (λ x l h. L .least l h)
 
   -- One pair: frame x is that of pair k
@@ -82,11 +82,13 @@ module _ {n : ℕ} {mlists wlists wranks : List ℕ} (T : Sound (tablesOf n n ml
   pub write-end :
       {best : ℕ → ℕ} {name at k : ℕ} {pairs l table waits : List ℕ} {count : ℕ} → k ≡ depth - low → at + 1 + 2 * (depth - low) ≤ length pairs →
       Writing n mlists wlists p best frames low depth first name at k (set pairs at (depth - low)) table l waits count →
-      RotationWritten (marketOf n n mlists wlists) p best name at (depth - low) pairs table l waits count
+      RotationWritten (marketOf n n mlists wlists) p best frames low depth name at pairs table l waits count
   write-end {at = at} {pairs = pairs} e room W =
       record {
         rotation = framed n mlists wlists p frames low depth first;
         exposed = framed-exposed;
+        first = let e : wrapped low depth (first + 0) ≡ first = omega (arith, wrapped-inside low depth (first + 0) (omega (arith, L .below))) in
+            (first, L .upward, L .below, ap (manAt frames) e);
         size = refl;
         written = pairs-end (W .written) e (getD-set-same pairs at (depth - low) 0 (omega arith)) (omega (arith, length-set pairs at (depth - low)));
         kept = λ v h. W .written .kept v (omega arith) ∙ getD-set-other pairs at v (depth - low) 0 (λ z. omega arith);

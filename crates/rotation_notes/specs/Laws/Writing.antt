@@ -1,7 +1,7 @@
 -- A rotation written from the frames of a path, pair by pair. Assumes nothing.
-use Prim.Native.Nat.{ℕ, _+_, _*_, _≤_, _<_}
-use mathlib.Core.Path.{_≡_}
-use mathlib.Core.Logic.{⊎-elim}
+use Prim.Native.Nat.{ℕ, zero, suc, _+_, _*_, _≤_, _<_}
+use mathlib.Core.Path.{_≡_, refl}
+use mathlib.Core.Logic.{inl, inr, ⊎-elim}
 use mathlib.Core.List.{List}
 use native.Mathlib.Omega.{arith}
 use lib.ListN.{length, set}
@@ -52,3 +52,14 @@ module _ (p frames : ℕ → ℕ) (x : ℕ) {m f : ℕ} (em : m ≡ manAt frames
           written = rw (ew, ef, em);
           noted = rw em at (rw ef at (rw et at N));
         }
+
+-- there is a frame that has the lowest man
+pub some-lowest : (frames : ℕ → ℕ) (low d : ℕ) → (r : ℕ) × LowestFrame frames low (low + 1 + d) r
+some-lowest frames low zero = let e : low + 1 + 0 ≡ low + 1 = omega arith in (low, rw e (lowest-start frames low))
+some-lowest frames low (suc d) =
+    let (r, L) = some-lowest frames low d in
+    let c = low + 1 + d in
+    let e : low + 1 + suc d ≡ c + 1 = omega arith in
+    rw e (split (manAt frames r) (manAt frames c)
+    (λ l. (r, lowest-on L (record { one = inl refl; first = omega arith; second = l })))
+    (λ l. (c, lowest-on L (record { one = inr refl; first = omega arith; second = omega arith }))))

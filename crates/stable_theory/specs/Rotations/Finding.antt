@@ -1,7 +1,7 @@
 -- The rotations found by eliminations in any order: at each moment they are those that the vector reached is past, and
 -- at the receivers' best they are all. Assumes nothing.
 use Prim.Native.Nat.{ℕ, suc, _<_}
-use mathlib.Core.Path.{_≡_, sym, _∙_}
+use mathlib.Core.Path.{_≡_, refl, sym, _∙_}
 use mathlib.Core.Bool.{true}
 use native.Mathlib.Omega.{arith}
 use Rattle.laws.specs.Choice.{split, tested}
@@ -17,7 +17,7 @@ use Rattle.stable_theory.specs.Rotations.SameRotation.{same-sym, same-tr
 use Rattle.stable_theory.specs.Rotations.Canonical.{rotations-complete}
 use Rattle.stable_theory.specs.Rotations.Rebuild.{run-last}
 use Rattle.stable_theory.specs.Rotations.OneRotation.{only-itself, prefix-passed, first-not, passed-later, eliminated-passed, exposed-not}
-use Rattle.stable_theory.specs.Rotations.PassedCount.{passedCount, passed-none, passed-one, passed-every}
+use Rattle.stable_theory.specs.Rotations.PassedCount.{passedCount, passed-most, passed-none, passed-one, passed-every}
 use Rattle.stable_theory.specs.Rotations.Unordered.{IsRotation, Unordered}
 
 -- σ 0, …, σ (c - 1) are the rotations that p is past, none twice
@@ -39,6 +39,17 @@ module _ {I : Market} (M : Proper I) where
         all = λ {k} h t. absurd (clash t (passed-agree (rotations-complete M .exposed h) e ∙ first-not M (rotations-complete M) h));
         count = sym (passed-none M (rotations-complete M) e);
       }
+
+  -- where one is exposed, not all are found
+  pub finding-few : {p : ℕ → ℕ} {c : ℕ} {σ : ℕ → Rotation} {τ : Rotation} → Finding I p c σ → Stable I p → Exposed I p τ → c < total I
+  finding-few {p} {τ = τ} F P X =
+      let q = eliminate I τ p in
+      omega (
+        arith,
+        F .count,
+        passed-one M (rotations-complete M) {q = q} P X (λ i u. refl),
+        passed-most I (total I) (rotation I) q,
+      )
 
   -- the rotation τ is exposed in p, found, and eliminated
   module _ {p q : ℕ → ℕ} {c : ℕ} {σ σ₂ : ℕ → Rotation} (F : Finding I p c σ) (P : Stable I p) {τ : Rotation} (X : Exposed I p τ) (e : Same I q (eliminate I τ p))

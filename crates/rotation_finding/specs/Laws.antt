@@ -1,0 +1,2 @@
+-- Laws of what is found. Assumes nothing.
+pub mod Recording

@@ -1,0 +1,2 @@
+// All rotations, in any order: each is written down as soon as it is found, and eliminated.
+mod recording;
