@@ -1,2 +1,3 @@
 -- Laws of what is found. Assumes nothing.
 pub mod Recording
+pub mod Growing
