@@ -1,2 +1,3 @@
 // All rotations, in any order: each is written down as soon as it is found, and eliminated.
+mod elimination;
 mod recording;
