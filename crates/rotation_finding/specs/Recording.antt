@@ -2,14 +2,14 @@
 use Prim.Native.Nat.{ℕ, suc, _+_, _*_, _≤_, _<_}
 use mathlib.Core.Path.{_≡_}
 use mathlib.Core.List.{List}
-use lib.ListN.{length, set}
+use lib.ListN.{length, set, take}
 use Rattle.laws.specs.Values.{vec}
 use Rattle.stable_theory.specs.Stable.Market.{Market}
 use Rattle.stable_theory.specs.Stable.Vector.{Stable}
 use Rattle.stable_theory.specs.Rotations.Finding.{Finding}
 use Rattle.rotation_elimination.specs.Room.{Room}
 use Rattle.rotation_waits.specs.Waits.{waitsLeft, Noted}
-use Rattle.rotation_waits.specs.AllRotations.{numbered}
+use Rattle.rotation_waits.specs.AllRotations.{AllRotations, numbered}
 use Rattle.rotation_notes.specs.Writing.{RotationWritten}
 
 -- the lists have room for the rotations of n persons, and their numbers fit
@@ -40,3 +40,9 @@ pub record RecordedOne (I : Market) (p best frames : ℕ → ℕ) (low depth c e
   pub long : length pairs₂ ≡ length pairs
   pub begins : begin₂ ≡ set begin c end
   pub lefts : left₂ ≡ set left c count
+
+-- all rotations are found, `count` of them, and the counts are those for the places `best`
+pub record FoundAll (I : Market) (best : ℕ → ℕ) (pairs begin left waits : List ℕ) (count : ℕ) : Type 0 where
+  pub within : count ≤ length begin
+  pub all : AllRotations I pairs (take count begin) waits
+  pub counts : {q : ℕ} → q < count → vec left q ≡ waitsLeft (I .proposers .size) (I .receivers .size) waits best q

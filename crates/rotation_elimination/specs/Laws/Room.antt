@@ -33,7 +33,13 @@ sum-within {I} {p} b P short =
       sum-const (I .proposers .size) b (λ i. b) (λ i u. refl),
     )
 
--- so there is room for a rotation that is exposed, and for what comes after it
+-- so what is used is within the list
+pub room-within :
+    {I : Market} {p : ℕ → ℕ} {b at : ℕ} {l : List ℕ} → Stable I p → ((i : ℕ) → i < I .proposers .size → I .proposers .len i ≤ b) →
+    Room (I .proposers .size) b p at l → at ≤ length l
+room-within {b = b} P short R = omega (arith, R .used, R .whole, sum-within b P short)
+
+-- and there is room for a rotation that is exposed, and for what comes after it
 module _ {I : Market} (M : Proper I) {p : ℕ → ℕ} (P : Stable I p) {ρ : Rotation} (X : Exposed I p ρ) {at b : ℕ} {l : List ℕ} (R : Room (I .proposers .size) b p at l) where
   pub room-after : {q : ℕ → ℕ} → Same I q (eliminate I ρ p) → {m : List ℕ} → length m ≡ length l → {c : ℕ} → c ≡ ρ .pairs → Room (I .proposers .size) b q (at + (1 + 2 * c)) m
   room-after {q} e {m} s d =

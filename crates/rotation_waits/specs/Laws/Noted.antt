@@ -1,5 +1,5 @@
 -- A rotation waits for nobody just where it is clear, that is where it is exposed or passed. Assumes nothing.
-use Prim.Native.Nat.{ℕ, _<_}
+use Prim.Native.Nat.{ℕ, _≤_, _<_}
 use mathlib.Core.Path.{_≡_}
 use mathlib.Core.Bool.{true, false}
 use mathlib.Core.List.{List}
@@ -8,10 +8,27 @@ use Rattle.laws.specs.Choice.{split}
 use Rattle.stable_theory.specs.Stable.Market.{Market, Proper, exchange}
 use Rattle.stable_theory.specs.Stable.Vector.{Stable, Before, Mirror}
 use Rattle.stable_theory.specs.Rotations.Rotation.{Rotation, Exposed, passed}
-use Rattle.stable_theory.specs.Rotations.Clear.{Clear, exposed-clear, passed-clear, clear-exposed}
+use Rattle.stable_theory.specs.Rotations.Clear.{MovesPast, Clear, exposed-clear, passed-clear, clear-exposed}
 use Rattle.stable_theory.specs.Rotations.Unordered.{Unordered}
 use Rattle.rotation_waits.specs.Waits.{waitsLeft, Noted}
 use Rattle.rotation_waits.specs.Laws.Left.{left-none, none-left}
+
+-- the table names the first z rotations alone
+pub noted-alike :
+    {I : Market} {z : ℕ} {σ τ : ℕ → Rotation} {best : ℕ → ℕ} {waits : List ℕ} → ((q : ℕ) → q < z → σ q ≡ τ q) →
+    ((w : ℕ) → w < I .receivers .size → best w ≤ I .proposers .size) → Noted I z σ best waits → Noted I z τ best waits
+noted-alike {I} {σ = σ} {best = best} e few N =
+    record {
+      names = N .names;
+      rightly = λ {w} {x} {q} u l f.
+          let h = N .names {w = w} {x = x} u (omega (arith, few w u)) in
+          rw (← e q (omega arith)) (N .rightly u l f);
+      all = λ {q} {k} {w} h m l.
+          let s = e q h in
+          let n : MovesPast I (σ q) k w = rw s m in
+          let b : I .receivers .place w (σ q .man k) < best w = rw s l in
+          rw (← s) (N .all h n b);
+    }
 
 -- t are places at which no woman is worse off than at `best`
 module _ {I : Market} {z : ℕ} {σ : ℕ → Rotation} {best : ℕ → ℕ} {waits : List ℕ} (N : Noted I z σ best waits) {t : ℕ → ℕ} (B : Before (exchange I) t best) {q : ℕ} where

@@ -40,6 +40,16 @@ pub record Unordered (I : Market) (z : ℕ) (σ : ℕ → Rotation) : Type 0 whe
   pub all : {k : ℕ} → k < total I → (q : ℕ) × (q < z) × SamePairs (σ q) (rotation I k)
   pub count : z ≡ total I
 
+-- it depends on the first z alone
+pub unordered-alike : {I : Market} {z : ℕ} {σ τ : ℕ → Rotation} → ((q : ℕ) → q < z → σ q ≡ τ q) → Unordered I z σ → Unordered I z τ
+unordered-alike e U =
+    record {
+      each = λ {q} h. rw (← e q h) (U .each h);
+      once = λ {j} {q} g h s. U .once g h (rw (e j g, e q h) s);
+      all = λ h. let (q, g, s) = U .all h in (q, g, rw (← e q g) s);
+      count = U .count;
+    }
+
 module _ {I : Market} (M : Proper I) {z : ℕ} {σ : ℕ → Rotation} (U : Unordered I z σ) where
   -- what is exposed is one of them
   pub unordered-has : {p : ℕ → ℕ} {τ : Rotation} → Stable I p → Exposed I p τ → (q : ℕ) × (q < z) × SamePairs (σ q) τ
