@@ -4,7 +4,6 @@ use mathlib.Core.Path.{_≡_}
 use mathlib.Core.List.{List}
 use lib.ListN.{length}
 use denote.Ref.{RefT}
-use denote.Triple.Both.{Both}
 use Rattle.stable_theory.specs.Stable.Market.{Market}
 use Rattle.stable_theory.specs.Stable.Vector.{Stable, Mirror}
 use Rattle.stable_theory.specs.Stable.Holding.{Same}
@@ -34,14 +33,10 @@ abbrev pub slicesOf : (p t held due on frames down up : List ℕ) → Slices
 slicesOf p t held due on frames down up =
     record { p = p; t = t; held = held; due = due; on = on; frames = frames; down = down; up = up }
 
--- Lent slices, as a function begins and as it ends
+-- Lent slices
 abbrev pub slices : (p t held due on frames down up : RefT (List ℕ)) → Slices
 slices p t held due on frames down up =
     slicesOf (p .now) (t .now) (held .now) (due .now) (on .now) (frames .now) (down .now) (up .now)
-
-abbrev pub slices₁ : {E : Type 0} → (p t held due on frames down up : Both E (RefT (List ℕ))) → Slices
-slices₁ p t held due on frames down up =
-    slices (p .exit) (t .exit) (held .exit) (due .exit) (on .exit) (frames .exit) (down .exit) (up .exit)
 
 -- A number for each man or woman, and four for each man on the path
 pub record SlicesSized (n : ℕ) (W : Slices) : Type 0 where

@@ -12,7 +12,8 @@ use Rattle.stable_theory.specs.Rotations.Eliminate.{RotationPart, turn-moved}
 use Rattle.stable_theory.specs.Rotations.Dichotomy.{passed-all, moved-passed}
 use Rattle.stable_theory.specs.Repairs.Repair.{IsDown, IsUp}
 use Rattle.stable_theory.specs.Repairs.Shared.{shared-down, shared-up}
-use Rattle.rotation_pass.specs.Shares.{Names, Shares, Named, Noted, waits, leaves, comes}
+use Rattle.rotation_groups.specs.Notes.{Named, Noted, waits, leaves, comes}
+use Rattle.rotation_pass.specs.Shares.{Names, Shares}
 use Rattle.rotation_pass.specs.Laws.Shares.{Leading, leading-same, leading-put, names-same, names-put}
 
 -- Man b is moved by ρ from his given place, or to it; ρ is exposed in q

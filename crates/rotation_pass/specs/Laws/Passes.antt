@@ -1,77 +1,88 @@
--- A pass from its beginning to its end: the men below a bound are at their ends. Assumes nothing.
-use Prim.Native.Nat.{ℕ, _+_, _≤_, _<_}
+-- A pass from its beginning to its end. Assumes nothing.
+use Prim.Native.Nat.{ℕ, suc, _+_, _<_}
 use mathlib.Core.Path.{_≡_, sym, _∙_}
 use mathlib.Core.List.{List}
-use native.Mathlib.Omega.{arith}
-use Rattle.laws.specs.Choice.{same}
+use lib.ListN.{length}
 use Rattle.laws.specs.Values.{vec}
 use Rattle.stable_theory.specs.Stable.Market.{Market, Proper}
-use Rattle.stable_theory.specs.Stable.Vector.{Before}
-use Rattle.stable_theory.specs.Stable.Holding.{Same}
-use Rattle.stable_theory.specs.Least.Optimal.{proposer-optimal, receiver-optimal, receiver-optimal-last}
+use Rattle.stable_theory.specs.Stable.Vector.{Stable}
+use Rattle.stable_theory.specs.Stable.Holding.{Same, stable-same}
+use Rattle.stable_theory.specs.Least.Optimal.{proposer-optimal, proposer-optimal-stable, receiver-optimal}
 use Rattle.stable_theory.specs.Rotations.Numbering.{total}
-use Rattle.stable_theory.specs.Rotations.Canonical.{rotations-complete}
-use Rattle.stable_theory.specs.Rotations.PassedCount.{passed-none, passed-every}
 use Rattle.stable_theory.specs.Repairs.Repair.{IsDown, IsUp}
+use Rattle.rotation_path.specs.declared.search.Cycle.{Cycle}
+use Rattle.rotation_path.specs.Stands.{Holders}
+use Rattle.rotation_walks.specs.Walks.{FoundNext, Progress}
+use Rattle.rotation_walks.specs.Elimination.{Separate, Eliminated}
+use Rattle.rotation_walks.specs.Laws.Progress.{progress-start, progress-on, progress-end, progress-all}
+use Rattle.rotation_groups.specs.Notes.{Prepared, NotedCycle}
 use Rattle.rotation_pass.specs.Groups.{Grouped}
-use Rattle.rotation_pass.specs.Pass.{Slices, slicesOf, SlicesSized}
+use Rattle.rotation_pass.specs.Pass.{Start, Slices, slicesOf, SlicesSized}
 use Rattle.rotation_pass.specs.Shares.{Shares}
-use Rattle.rotation_pass.specs.Walks.{Stands, Passing}
-use Rattle.rotation_pass.specs.Laws.Path.{path-none}
-use Rattle.rotation_pass.specs.Laws.Shares.{grouped-down, grouped-up}
+use Rattle.rotation_pass.specs.Laws.Shares.{shares-start, grouped-down, grouped-up}
+use Rattle.rotation_pass.specs.Laws.Moves.{shares-moved}
 
--- What the loop knows: the men below `start` are at their ends
-pub record Ended (I : Market) (g ends : ℕ → ℕ) (W : Slices) (start found : ℕ) : Type 0 where
-  pub upto : start ≤ I .proposers .size
-  pub passing : Passing I g W 0 found
-  pub ended : (s : ℕ) → s < start → vec (W .p) s ≡ ends s
+-- What the loop knows: `count` rotations are eliminated, c men are left on the path, which began with man `start`, and
+-- what is noted is right for the places now
+pub record Passing (I : Market) (g : ℕ → ℕ) (W : Slices) (c start count : ℕ) : Type 0 where
+  pub sized : SlicesSized (I .proposers .size) W
+  pub progress : Progress I (vec (W .p)) (vec (W .t)) (vec (W .held)) (vec (W .frames)) (vec (W .on)) c start count
+  pub shares : Shares I g (vec (W .p)) (vec (W .due)) (vec (W .down)) (vec (W .up))
 
--- it begins at the men's best matching
-pub ended-start :
-    {I : Market} → Proper I → {g ends : ℕ → ℕ} {p t held due on frames down up : List ℕ} → SlicesSized (I .proposers .size) (slicesOf p t held due on frames down up) →
-    Same I (vec p) (proposer-optimal I) → Stands I (vec p) (vec t) (vec held) → Shares I g (vec p) (vec due) (vec down) (vec up) →
-    ((m : ℕ) → m < I .proposers .size → vec on m ≡ 0) → Ended I g ends (slicesOf p t held due on frames down up) 0 0
-ended-start M {frames = frames} Z best S H off =
+-- slices of the same lengths
+pub sized-same :
+    {n : ℕ} {p t held due on frames down up p′ t′ held′ due′ on′ frames′ down′ up′ : List ℕ} → SlicesSized n (slicesOf p t held due on frames down up) →
+    length p′ ≡ length p → length t′ ≡ length t → length held′ ≡ length held → length due′ ≡ length due → length on′ ≡ length on →
+    length frames′ ≡ length frames → length down′ ≡ length down → length up′ ≡ length up → SlicesSized n (slicesOf p′ t′ held′ due′ on′ frames′ down′ up′)
+sized-same Z a b c d e f g h =
     record {
-      upto = omega arith;
-      passing = record {
-        sized = Z;
-        stands = S;
-        shares = H;
-        path = path-none (vec frames) off;
-        counted = sym (passed-none M (rotations-complete M) best);
-      };
-      ended = λ s u. absurd (omega arith);
+      p = a ∙ Z .p;
+      t = b ∙ Z .t;
+      held = c ∙ Z .held;
+      due = d ∙ Z .due;
+      on = e ∙ Z .on;
+      frames = f ∙ Z .frames;
+      down = g ∙ Z .down;
+      up = h ∙ Z .up;
     }
 
-module _ {I : Market} (M : Proper I) {g ends : ℕ → ℕ} (e : Same I ends (receiver-optimal I)) {W : Slices} {start found : ℕ} (E : Ended I g ends W start found) where
-  -- one man more is at his end, and the others stay there
-  pub ended-on :
-      start < I .proposers .size → {X : Slices} {more : ℕ} → Passing I g X 0 more → Before I (vec (W .p)) (vec (X .p)) → vec (X .p) start ≡ ends start →
-      Ended I g ends X (start + 1) more
-  ended-on u {X} A le q =
+-- the men's best matching is stable
+pub start-stable : {I : Market} → Proper I → {p t g ends : ℕ → ℕ} → Start I p t g ends → Stable I p
+start-stable {I} M {p} S = stable-same (proposer-optimal I) p (λ i u. sym (S .best i u)) (proposer-optimal-stable M)
+
+-- a pass begins there
+pub passing-start :
+    {I : Market} → Proper I → {g ends : ℕ → ℕ} {p t held due on frames down up : List ℕ} → SlicesSized (I .proposers .size) (slicesOf p t held due on frames down up) →
+    Start I (vec p) (vec t) g ends → Holders I (vec p) (vec held) → ((m : ℕ) → m < I .proposers .size → vec on m ≡ 0) →
+    Prepared (I .proposers .size) g (vec p) (I .proposers .size) (vec due) (vec down) (vec up) → Passing I g (slicesOf p t held due on frames down up) 0 0 0
+passing-start M {frames = frames} Z S H off P =
+    record {
+      sized = Z;
+      progress = progress-start M (S .best) (record { stable = start-stable M S; sides = S .sides; holders = H }) (vec frames) off;
+      shares = shares-start M (S .stable) (S .best) P;
+    }
+
+module _ {I : Market} (M : Proper I) {g : ℕ → ℕ} {p t held due on frames down up : List ℕ} {c start count : ℕ}
+    (A : Passing I g (slicesOf p t held due on frames down up) c start count) where
+  -- a rotation is found and eliminated
+  pub passing-on :
+      {p′ t′ held′ due′ on′ frames′ down′ up′ : List ℕ} → SlicesSized (I .proposers .size) (slicesOf p′ t′ held′ due′ on′ frames′ down′ up′) →
+      ((i : ℕ) → i < I .proposers .size → I .proposers .len i < 65536) → {marks : ℕ → ℕ} {found : Cycle} → FoundNext I (vec p) (vec frames′) marks found →
+      {low : ℕ} → found .first ≡ suc low → Separate (I .proposers .size) (vec frames′) low (found .depth) →
+      Eliminated (vec frames′) low (found .depth) (vec p) (vec t) (vec held) marks (vec p′) (vec t′) (vec held′) (vec on′) →
+      NotedCycle (I .proposers .size) (vec frames′) low (found .depth) (vec p) (vec due) (vec down) (vec up) (vec p′) (vec due′) (vec down′) (vec up′) →
+      Passing I g (slicesOf p′ t′ held′ due′ on′ frames′ down′ up′) low (found .start) (count + 1)
+  passing-on Z short F e P E N =
       record {
-        upto = omega arith;
-        passing = A;
-        ended = λ s v. same s start (λ z. rw z q)
-            (λ ne. let w : s < I .proposers .size = omega arith in
-            omega (arith, E .ended s (omega arith), le s w, e s w, receiver-optimal-last M (A .stands .stable) s w));
+        sized = Z;
+        progress = progress-on M (A .progress) F e E;
+        shares = shares-moved M (A .progress .stands) (F .path e) (F .closes e) P short (A .shares) N;
       }
 
-  -- all are
-  module _ (h : I .proposers .size ≤ start) where
-    pub all-ended : Same I (vec (W .p)) ends
-    all-ended s u = E .ended s (omega arith)
-
-    worst : Same I (vec (W .p)) (receiver-optimal I)
-    worst s u = all-ended s u ∙ e s u
-
-    -- so all rotations are passed, and who answers for whom is settled
-    pub ended-count : found ≡ total I
-    ended-count = E .passing .counted ∙ passed-every M (rotations-complete M) worst
-
-    pub ended-down : Grouped (I .proposers .size) (IsDown I g) (vec (W .down))
-    ended-down = grouped-down M (E .passing .shares) worst
-
-    pub ended-up : Grouped (I .proposers .size) (IsUp I g) (vec (W .up))
-    ended-up = grouped-up M (E .passing .shares) worst
+  -- there is none: all rotations are found, who answers for whom is settled, and all men are at their ends
+  pub passed-all :
+      {kept marks : ℕ → ℕ} {found : Cycle} → FoundNext I (vec p) kept marks found → found .first ≡ 0 → {ends : ℕ → ℕ} → Same I ends (receiver-optimal I) →
+      (count ≡ total I) × (Grouped (I .proposers .size) (IsDown I g) (vec down) × (Grouped (I .proposers .size) (IsUp I g) (vec up) × Same I (vec p) ends))
+  passed-all F z e =
+      let ended = progress-end M (A .progress) F z in
+      (progress-all M (A .progress) F z, (grouped-down M (A .shares) ended, (grouped-up M (A .shares) ended, λ s u. ended s u ∙ sym (e s u))))

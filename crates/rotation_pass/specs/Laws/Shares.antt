@@ -12,11 +12,8 @@ use Rattle.stable_theory.specs.Stable.Holding.{Same}
 use Rattle.stable_theory.specs.Least.Optimal.{proposer-optimal, receiver-optimal, proposer-optimal-first, receiver-optimal-last}
 use Rattle.stable_theory.specs.Repairs.Repair.{IsDown, IsUp}
 use Rattle.rotation_pass.specs.Groups.{Led, NotLed, Grouped}
-use Rattle.rotation_pass.specs.Shares.{Names, Shares, replaced, Named}
-
--- a number chosen from two that are below k is
-pub replaced-lt : (x y z : ℕ) {k : ℕ} → x < k → z < k → replaced x y z < k
-replaced-lt x y z u v = same x y (λ e. rw (eq-eqb x y e) v) (λ ne. rw (ne-eqb x y ne) u)
+use Rattle.rotation_groups.specs.Notes.{Named, Prepared}
+use Rattle.rotation_pass.specs.Shares.{Names, Shares}
 
 -- The one who answers for those who were moved with him, or n where nobody was yet: With says who they are
 pub record Leading (n : ℕ) (With : ℕ → Type 0) (names : ℕ → ℕ) (lead : ℕ) : Type 0 where
@@ -25,10 +22,6 @@ pub record Leading (n : ℕ) (With : ℕ → Type 0) (names : ℕ → ℕ) (lead
 -- nobody was
 pub leading-none : {n : ℕ} {With : ℕ → Type 0} {names : ℕ → ℕ} → Leading n With names n
 leading-none = record { one = λ ne. absurd (ne refl) }
-
--- it is a man, or n
-pub leading-le : {n : ℕ} {With : ℕ → Type 0} {names : ℕ → ℕ} {lead : ℕ} → Leading n With names lead → lead ≤ n
-leading-le {n} {lead = lead} L = same lead n (λ e. omega arith) (λ ne. omega (arith, L .one ne .0))
 
 -- nothing is named
 pub leading-same :
@@ -94,21 +87,19 @@ module _ {n : ℕ} {Repair : ℕ → (ℕ → ℕ) → Type 0} {Settled : ℕ �
 module _ {I : Market} (M : Proper I) {g p due down up : ℕ → ℕ} where
   -- at the men's best matching nobody is below his given place, and who is there has no repair up
   pub shares-start :
-      Stable I g → Same I p (proposer-optimal I) → ((s : ℕ) → s < I .proposers .size → due s ≡ replaced (g s) (p s) 0) →
-      ((s : ℕ) → s < I .proposers .size → down s ≡ I .proposers .size) → ((s : ℕ) → s < I .proposers .size → up s ≡ I .proposers .size) →
-      Shares I g p due down up
-  shares-start G e q d u =
+      Stable I g → Same I p (proposer-optimal I) → Prepared (I .proposers .size) g p (I .proposers .size) due down up → Shares I g p due down up
+  shares-start G e P =
       let first : (s : ℕ) → s < I .proposers .size → p s ≤ g s = λ s v. omega (arith, e s v, proposer-optimal-first M (G .settled) s v) in
       record {
         stable = G;
-        above = λ {s} v l. q s v ∙ ap (λ b. pick b 0 (g s)) (ne-eqb (g s) (p s) (λ z. omega arith));
-        there = λ {s} v z. q s v ∙ ap (λ b. pick b 0 (g s)) (eq-eqb (g s) (p s) (sym z));
+        above = λ {s} v l. P .dues s v ∙ ap (λ b. pick b 0 (g s)) (ne-eqb (g s) (p s) (λ z. omega arith));
+        there = λ {s} v z. P .dues s v ∙ ap (λ b. pick b 0 (g s)) (eq-eqb (g s) (p s) (sym z));
         below = λ {s} v l. absurd (omega (arith, first s v));
-        downs = record { unnamed = λ {s} v f. d s v; named = λ {s} v l. absurd (omega (arith, first s v)) };
+        downs = record { unnamed = λ {s} v f. P .downs s v; named = λ {s} v l. absurd (omega (arith, first s v)) };
         ups = record {
-          unnamed = λ {s} v f. u s v;
+          unnamed = λ {s} v f. P .ups s v;
           named = λ {s} v l. inl record {
-            none = u s v;
+            none = P .ups s v;
             no-repair = λ k R. R .parts .without
                 (omega (arith, R .before s v, e s v, first s v, proposer-optimal-first M (R .parts .stable .settled) s v));
           };
