@@ -1,0 +1,4 @@
+-- Laws of the numbering. Assumes nothing.
+pub mod Release
+pub mod Raise
+pub mod Turning
