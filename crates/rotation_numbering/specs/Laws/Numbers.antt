@@ -72,8 +72,11 @@ module _ {r : Record} (U : Usable r) {s : Places} (P : PlacesIn (r .n) (marketIn
   pub run-best : Same (marketIn r) (vec (take (r .n) (s .men))) (proposer-optimal (marketIn r))
   run-best i u = sym (men-front i u) ∙ P .same i u
 
-  pub run-mirror : Mirror (marketIn r) (proposer-optimal (marketIn r)) (vec (take (r .n) (s .women)))
-  run-mirror = mirror-alike (alike-refl (marketIn r)) (P .same) women-front (P .mirror)
+  pub run-sides : Mirror (marketIn r) (vec (take (r .n) (s .men))) (vec (take (r .n) (s .women)))
+  run-sides = mirror-alike (alike-refl (marketIn r)) men-front women-front (P .mirror)
+
+  run-mirror : Mirror (marketIn r) (proposer-optimal (marketIn r)) (vec (take (r .n) (s .women)))
+  run-mirror = mirror-vector (U .men .proper) run-best run-sides
 
   -- and of the women's places past which rotations are noted
   best-mirror : Mirror (marketIn r) (proposer-optimal (marketIn r)) (vec (s .women))

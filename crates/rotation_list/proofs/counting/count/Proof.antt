@@ -4,8 +4,8 @@ use mathlib.Core.Path.{sym}
 use native.Mathlib.Omega.{arith}
 use borrow.Author.Needs.{needs}
 use Rattle.laws.specs.Padded.{zeros-front}
-use Rattle.rotation_numbering.specs.Laws.Numbers.{run-sized}
-use Rattle.rotation_list.specs.Laws.Counting.{frames-long, pass-sized, pass-start}
+use Rattle.rotation_numbering.specs.Laws.Numbers.{frames-front, run-sized}
+use Rattle.rotation_list.specs.Laws.Counting.{pass-sized, pass-start}
 use Rattle.rotation_list.proofs.counting.count.Statement.{statement}
 use Rattle.rotation_list.proofs.counting.count.Tie as tie
 
@@ -45,7 +45,7 @@ count-spec =
     (λ c. sym (zeros-front (start (search) .pre .few)))
     (λ c. search needs)
     (λ c. search needs)
-    (λ c. sym (frames-long (start (search) .pre)))
+    (λ c. sym (frames-front (start (search) .pre)))
     (λ c. search needs)
     (λ c. sym (zeros-front (start (search) .pre .few)))
     (λ c. search needs)
