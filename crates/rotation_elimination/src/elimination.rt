@@ -1,5 +1,5 @@
-// The elimination of a rotation that stands in a list of numbers: its number of pairs stands at index `at`, then man and
-// woman of each pair, from its lowest man on.
+// The elimination of a rotation that stands in a list of numbers: its number of pairs stands at index `at`, then man
+// and woman of each pair, from its lowest man on.
 use tables::entry;
 use tables::wide;
 ghost use mathlib.Core.Path.{_≡_};

@@ -42,7 +42,8 @@ pub record NotedFor (I : Market) (best : ℕ → ℕ) (m from to w x : ℕ) : Ty
   pub rank : x ≡ I .receivers .place w m
   pub prefers : x < best w
 
--- the name stands there now, and every other cell is as it was; so the rotation of this name waits for so many women more
+-- the name stands there now, and every other cell is as it was; so the rotation of this name waits for so many women
+-- more
 pub record ManNoted (I : Market) (best : ℕ → ℕ) (name m from to : ℕ) (before waits : List ℕ) (count : ℕ) : Type 0 where
   pub long : length waits ≡ length before
   pub noted : {k : ℕ} → from ≤ k → k < to → Prefers I best m k → cellOf I waits m k ≡ name

@@ -30,8 +30,8 @@ pub record PairNoted (I : Market) (p best frames : ℕ → ℕ) (name x i : ℕ)
   pub written : pairs ≡ set (set before i (manAt frames x)) (i + 1) (I .proposers .at (manAt frames x) (p (manAt frames x)))
   pub noted : ManNoted I best name (manAt frames x) (p (manAt frames x)) (placeAt frames x) table waits count
 
--- the men of the frames from `low` up to c are those of a rotation exposed in p: each has the next one for his follower,
--- and the last the first
+-- the men of the frames from `low` up to c are those of a rotation exposed in p: each has the next one for his
+-- follower, and the last the first
 pub record CycleFrames (I : Market) (p frames : ℕ → ℕ) (low c : ℕ) : Type 0 where
   pub short : c ≤ I .proposers .size
   pub follows : FollowerCycle I p low c (manAt frames) (womanAt frames)

@@ -1,5 +1,5 @@
-// A rotation at the end of a path is written into a list: its number of pairs, then man and woman of each pair, from its
-// lowest man on.
+// A rotation at the end of a path is written into a list: its number of pairs, then man and woman of each pair, from
+// its lowest man on.
 use crate::waiting::note;
 use rotation_path::number_at;
 use tables::entry;
@@ -49,8 +49,8 @@ fn lowest_frame(frames: &[u16], low: usize, depth: usize) -> usize
     first
 }
 
-// Writes the pair of the man of frame x at index i of the list, and notes the women past whom he is moved. The answer is
-// how many of them prefer him to whom they have in the student-best matching.
+// Writes the pair of the man of frame x at index i of the list, and notes the women past whom he is moved. The answer
+// is how many of them prefer him to whom they have in the student-best matching.
 fn write_pair(
     n: usize,
     mlists: &[u16],

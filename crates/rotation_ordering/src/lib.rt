@@ -1,5 +1,5 @@
-// The rotations in order of number, from all of them in any order: each waits for women, and of those that wait for none
-// the one with the lowest first man is written next and eliminated.
+// The rotations in order of number, from all of them in any order: each waits for women, and of those that wait for
+// none the one with the lowest first man is written next and eliminated.
 mod ordering;
 mod queue;
 

@@ -11,7 +11,8 @@ use Rattle.laws.specs.Values.{vec}
 abbrev pub firstMan : List ℕ → List ℕ → ℕ → ℕ
 firstMan pairs begin q = vec pairs (vec begin q + 1)
 
--- z rotations whose first men are below n can be read, and the table of n rows of n cells holds names of theirs and zeros
+-- z rotations whose first men are below n can be read, and the table of n rows of n cells holds names of theirs and
+-- zeros
 pub record Names (n z : ℕ) (pairs begin waits : List ℕ) : Type 0 where
   pub begins : length begin ≡ z
   pub inside : {q : ℕ} → q < z → vec begin q + 1 < length pairs

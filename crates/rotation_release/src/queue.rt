@@ -1,6 +1,6 @@
-// The queue of the rotations that wait for no woman. The rotations stand in `pairs`, number q from index begin[q] on, and
-// `left` has for how many women each waits. `ready` has for each man one more than the number of the rotation of the
-// queue of which he is the first man, or 0.
+// The queue of the rotations that wait for no woman. The rotations stand in `pairs`, number q from index begin[q] on,
+// and `left` has for how many women each waits. `ready` has for each man one more than the number of the rotation of
+// the queue of which he is the first man, or 0.
 use tables::wide;
 ghost use mathlib.Core.Path.{_≡_};
 ghost use Prim.Native.Nat.{min};

@@ -46,7 +46,8 @@ fn raise(
     least
 }
 
-// Each woman of the rotation from index `from` on goes to the man of the pair before. The answer is as that of `release`.
+// Each woman of the rotation from index `from` on goes to the man of the pair before. The answer is as that of
+// `release`.
 pub fn turn(
     n: usize,
     wranks: &[u16],

@@ -1,7 +1,7 @@
 -- For whom a rotation waits. A rotation that moves man m past woman w is not exposed as long as she prefers m to whom
--- she has; until then it waits for her. The table `waits` has a row for each woman and a cell for each rank on her list:
--- at rank x one more than the number of the rotation that waits until she has the man of that rank or one she prefers,
--- and 0 where none does. Rotation number q is σ q. Assumes nothing.
+-- she has; until then it waits for her. The table `waits` has a row for each woman and a cell for each rank on her
+-- list: at rank x one more than the number of the rotation that waits until she has the man of that rank or one she
+-- prefers, and 0 where none does. Rotation number q is σ q. Assumes nothing.
 use Prim.Native.Nat.{ℕ, suc, _≤_, _<_}
 use mathlib.Core.Path.{_≡_}
 use mathlib.Core.List.{List}

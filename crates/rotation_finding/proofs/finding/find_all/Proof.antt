@@ -1,6 +1,6 @@
--- `find_all` meets its contract. The loop's invariant: the walks have come so far, and the rotations that they found are
--- recorded. The measure is the number of places left. `cycle` says that a rotation is found, and `separate` that its
--- frames have different men and women. Assumes nothing.
+-- `find_all` meets its contract. The loop's invariant: the walks have come so far, and the rotations that they found
+-- are recorded. The measure is the number of places left. `cycle` says that a rotation is found, and `separate` that
+-- its frames have different men and women. Assumes nothing.
 use Prim.Native.Nat.{suc, _-_}
 use mathlib.Core.Path.{_≡_, refl, sym, _∙_}
 use native.Mathlib.Omega.{arith}

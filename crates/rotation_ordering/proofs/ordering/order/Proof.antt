@@ -1,5 +1,5 @@
--- `order` meets its contract. The loop's invariant: so many rotations as `at` says stand in the list. The measure is the
--- number of those left. Assumes nothing.
+-- `order` meets its contract. The loop's invariant: so many rotations as `at` says stand in the list. The measure is
+-- the number of those left. Assumes nothing.
 use Prim.Native.Nat.{_-_, _≤_}
 use mathlib.Core.Path.{_≡_, refl}
 use native.Mathlib.Omega.{arith}

@@ -1,5 +1,5 @@
--- `lowest` meets its contract. The loop's invariant: no man from `low` up to m has an entry. The measure is what is left up to the man who
--- has one. Assumes nothing.
+-- `lowest` meets its contract. The loop's invariant: no man from `low` up to m has an entry. The measure is what is
+-- left up to the man who has one. Assumes nothing.
 use Prim.Native.Nat.{_-_, _<_}
 use native.Mathlib.Omega.{arith}
 use borrow.Author.Needs.{needs}

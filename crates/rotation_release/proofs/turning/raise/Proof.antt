@@ -1,5 +1,5 @@
--- `raise` meets its contract. The loop's invariant: the rotations wait as if woman v had the man of rank x. The measure is x.
--- Assumes nothing.
+-- `raise` meets its contract. The loop's invariant: the rotations wait as if woman v had the man of rank x. The measure
+-- is x. Assumes nothing.
 use Prim.Native.Nat.{_-_, _≤_, _<_}
 use mathlib.Core.Path.{refl}
 use native.Mathlib.Omega.{arith}

@@ -1,6 +1,6 @@
--- `turn` meets its contract. The loop's invariant: the women of the first k pairs' following pairs have their new places.
--- `man` and `woman` say that the numbers read are those of the rotation, and below the bounds; `following` that the
--- following pair is one of it. Assumes nothing.
+-- `turn` meets its contract. The loop's invariant: the women of the first k pairs' following pairs have their new
+-- places. `man` and `woman` say that the numbers read are those of the rotation, and below the bounds; `following` that
+-- the following pair is one of it. Assumes nothing.
 use Prim.Native.Nat.{suc, _-_, _≤_, _<_}
 use mathlib.Core.Path.{_≡_, _∙_}
 use native.Mathlib.Omega.{arith}
