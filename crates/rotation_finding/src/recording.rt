@@ -2,12 +2,11 @@
 // women each waits in `left`, and for whom in `waits`.
 use rotation_notes::write;
 ghost use mathlib.Core.Path.{_≡_};
-ghost use Prim.Native.Nat.{_+_, _*_, _-_, _≤_, _<_};
+ghost use Prim.Native.Nat.{_+_, _*_, _-_, _≤_};
 ghost use lib.ListN.{length};
 ghost use Rattle.laws.specs.Moment.{now₀, now₁, vec₀};
 ghost use Rattle.laws.specs.Values.{vec};
 ghost use Rattle.tables.specs.Lists.{Tables, tables, market, Sound};
-ghost use Rattle.rotation_notes.specs.ManNoted.{Fits};
 ghost use Rattle.rotation_notes.specs.Writing.{CycleFrames};
 ghost use Rattle.rotation_finding.specs.Recording.{Recorded, Recordable, RecordedOne};
 

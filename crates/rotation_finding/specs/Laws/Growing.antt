@@ -4,13 +4,13 @@ use mathlib.Core.Path.{_≡_, refl, sym, _∙_, ap}
 use mathlib.Core.List.{List}
 use native.Mathlib.Omega.{arith}
 use native.Mathlib.Numerals.{add-one}
-use lib.ListN.{length, set}
+use lib.ListN.{length}
 use lib.Seq.{getD-set-same, getD-set-other}
 use Rattle.laws.specs.Choice.{split, same}
 use Rattle.laws.specs.Values.{vec}
 use Rattle.stable_theory.specs.Stable.Market.{Market, Proper}
 use Rattle.stable_theory.specs.Stable.Holding.{Same, stable-same}
-use Rattle.stable_theory.specs.Rotations.Rotation.{Rotation, SamePairs, eliminate}
+use Rattle.stable_theory.specs.Rotations.Rotation.{SamePairs, eliminate}
 use Rattle.stable_theory.specs.Rotations.ExtraVector.{vector-sym}
 use Rattle.stable_theory.specs.Rotations.EliminateStable.{eliminate-stable}
 use Rattle.stable_theory.specs.Rotations.SameRotation.{same-sym}

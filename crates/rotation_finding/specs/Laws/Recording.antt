@@ -1,16 +1,13 @@
 -- A rotation is found and recorded: there is room for it, and what stands there afterwards. Assumes nothing.
-use Prim.Native.Nat.{ℕ, suc, pred, _+_, _-_, _*_, _≤_, _<_}
-use mathlib.Core.Path.{_≡_, refl, sym, _∙_, ap}
+use Prim.Native.Nat.{ℕ, suc, pred, _+_, _-_, _*_, _≤_}
+use mathlib.Core.Path.{_≡_, refl}
 use mathlib.Core.List.{List}
 use native.Mathlib.Omega.{arith}
-use lib.ListN.{length, set}
-use Rattle.laws.specs.Choice.{split, same}
-use Rattle.laws.specs.Sum.{sum}
+use lib.ListN.{length}
 use Rattle.laws.specs.SumLaws.{sum-le}
 use Rattle.laws.specs.Rising.{sum-const}
 use Rattle.laws.specs.Values.{vec}
 use Rattle.tables.specs.Lists.{tablesOf, Sound, marketOf}
-use Rattle.stable_theory.specs.Stable.Market.{Market}
 use Rattle.stable_theory.specs.Rotations.Rotation.{Rotation, Exposed}
 use Rattle.stable_theory.specs.Rotations.Numbering.{total}
 use Rattle.stable_theory.specs.Rotations.RotationCount.{rotations-most}
@@ -22,7 +19,7 @@ use Rattle.rotation_notes.specs.Writing.{LowestFrame, CycleFrames, BlankExposed
 use Rattle.rotation_notes.specs.Laws.Writing.{some-lowest}
 use Rattle.rotation_notes.specs.Laws.Noting.{noting-blank}
 use Rattle.rotation_notes.specs.Laws.RotationWriting.{framed-exposed}
-use Rattle.rotation_finding.specs.Recording.{Recordable, Recorded, RecordedOne}
+use Rattle.rotation_finding.specs.Recording.{Recordable, Recorded}
 
 module _ {n : ℕ} {mlists wlists wranks : List ℕ} (T : Sound (tablesOf n n mlists wlists wranks)) where
   -- twice the number of rotations is at most n * n

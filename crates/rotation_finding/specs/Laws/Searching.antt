@@ -1,6 +1,6 @@
 -- The search for all rotations: what its loop knows. Assumes nothing.
-use Prim.Native.Nat.{ℕ, suc, _+_, _-_, _*_, _≤_, _<_}
-use mathlib.Core.Path.{_≡_, refl, sym, _∙_, ap}
+use Prim.Native.Nat.{ℕ, suc, _+_, _-_, _*_, _<_}
+use mathlib.Core.Path.{_≡_, sym, _∙_, ap}
 use mathlib.Core.List.{List}
 use native.Mathlib.Omega.{arith}
 use lib.ListN.{length}
@@ -16,7 +16,7 @@ use Rattle.stable_theory.specs.Rotations.PassedCount.{passed-most}
 use Rattle.stable_theory.specs.Rotations.Rotation.{eliminate}
 use Rattle.stable_theory.specs.Rotations.RotationAlike.{eliminate-same}
 use Rattle.stable_theory.specs.Rotations.CanonicalStep.{exposed-once}
-use Rattle.rotation_path.specs.Path.{manAt, Path, Closes}
+use Rattle.rotation_path.specs.Path.{Path, Closes}
 use Rattle.rotation_path.specs.declared.search.Cycle.{Cycle}
 use Rattle.rotation_path.specs.Stands.{Holders, Stands}
 use Rattle.rotation_path.specs.Laws.Path.{closes-cycle, closes-frame}
@@ -56,7 +56,7 @@ recordable-still D w p b l =
 
 module _ {I : Market} (M : Proper I) {p t held : ℕ → ℕ} (S : Stands I p t held) {frames on : ℕ → ℕ} {low c : ℕ} (Q : Path I p frames on c) (K : Closes I p frames low c) where
   -- a path that has come back to itself ends in the frames of a rotation
-  pub closes-frames : CycleFrames I p frames low c
+  closes-frames : CycleFrames I p frames low c
   closes-frames =
       record {
         short = Q .short;

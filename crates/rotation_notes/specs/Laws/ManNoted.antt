@@ -1,5 +1,5 @@
 -- The women past whom a rotation moves one of its men are noted, place by place. Assumes nothing.
-use Prim.Native.Nat.{ℕ, suc, _+_, _*_, _≤_, _<_}
+use Prim.Native.Nat.{ℕ, _+_, _*_, _≤_, _<_}
 use mathlib.Core.Path.{_≡_, refl, sym, _∙_, ap}
 use mathlib.Core.Logic.{inl, inr, ⊎-elim}
 use mathlib.Core.List.{List}
@@ -10,7 +10,7 @@ use Rattle.laws.specs.Table.{cell, cell-lt}
 use Rattle.laws.specs.Values.{vec}
 use Rattle.tables.specs.Lists.{tablesOf, Sound, marketOf, atIn}
 use Rattle.tables.specs.Laws.Rows.{stored-index, rank-index}
-use Rattle.stable_theory.specs.Stable.Market.{Market, Proper}
+use Rattle.stable_theory.specs.Stable.Market.{Market}
 use Rattle.stable_theory.specs.Stable.Holding.{accept-at}
 use Rattle.rotation_waits.specs.Laws.Left.{other-cell, that-cell, left-named, left-other}
 use Rattle.rotation_notes.specs.ManNoted.{Fits, Prefers, cellOf, Blank, NotedFor, ManNoted}
@@ -46,10 +46,10 @@ noted-start I best name m from waits =
 
 module _ {n : ℕ} {mlists wlists wranks : List ℕ} (T : Sound (tablesOf n n mlists wlists wranks)) where
   -- The cell of man m in the row of the woman at a place of his list is one of the table
-  pub woman-row : {m k : ℕ} → m < n → k < marketOf n n mlists wlists .proposers .len m → marketOf n n mlists wlists .proposers .at m k < n
+  woman-row : {m k : ℕ} → m < n → k < marketOf n n mlists wlists .proposers .len m → marketOf n n mlists wlists .proposers .at m k < n
   woman-row u l = T .proper .proposing .at-lt u l
 
-  pub rank-column : {m k : ℕ} → m < n → k < marketOf n n mlists wlists .proposers .len m →
+  rank-column : {m k : ℕ} → m < n → k < marketOf n n mlists wlists .proposers .len m →
       marketOf n n mlists wlists .receivers .place (marketOf n n mlists wlists .proposers .at m k) m < n
   rank-column u l =
       let A = accept-at (T .proper) u l in

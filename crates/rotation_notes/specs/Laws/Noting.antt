@@ -2,7 +2,6 @@
 -- before it have moved its men to its places at most, and they are its own afterwards. Assumes nothing.
 use Prim.Native.Nat.{ℕ, suc, pred, _≤_, _<_}
 use mathlib.Core.Path.{_≡_, refl, sym, _∙_, ap}
-use mathlib.Core.Bool.{true}
 use mathlib.Core.Logic.{⊎-elim}
 use mathlib.Core.List.{List}
 use native.Mathlib.Omega.{arith}
@@ -11,7 +10,7 @@ use Rattle.laws.specs.Table.{cell}
 use Rattle.stable_theory.specs.Stable.Market.{Market, Proper}
 use Rattle.stable_theory.specs.Stable.Vector.{Stable}
 use Rattle.stable_theory.specs.Stable.Holding.{rank-injective}
-use Rattle.stable_theory.specs.Rotations.Rotation.{Rotation, Exposed, SamePairs, passed}
+use Rattle.stable_theory.specs.Rotations.Rotation.{Rotation, Exposed, SamePairs}
 use Rattle.stable_theory.specs.Rotations.Eliminate.{holds-pair, turn-at, eliminate-at}
 use Rattle.stable_theory.specs.Rotations.Dichotomy.{passed-all}
 use Rattle.stable_theory.specs.Rotations.Clear.{MovesPast}
@@ -22,7 +21,7 @@ use Rattle.rotation_notes.specs.RotationNoted.{cellAt, BlankFor, Awaited
 use Rattle.rotation_notes.specs.Laws.RotationNoted.{ShortLists}
 
 -- what a rotation moves, one with the same pairs moves
-pub moves-same : {I : Market} {ρ σ : Rotation} {k w : ℕ} → SamePairs ρ σ → MovesPast I ρ k w → MovesPast I σ k w
+moves-same : {I : Market} {ρ σ : Rotation} {k w : ℕ} → SamePairs ρ σ → MovesPast I ρ k w → MovesPast I σ k w
 moves-same {I} {ρ} {σ} {k} {w} s m =
     let h = m .number in
     let a = s .man k (omega arith) in

@@ -1,6 +1,6 @@
 -- A rotation written and noted from the frames of a path, from its lowest man on. Assumes nothing.
 use Prim.Native.Nat.{ℕ, suc, _+_, _-_, _*_, _≤_, _<_}
-use mathlib.Core.Path.{_≡_, refl, sym, _∙_, ap}
+use mathlib.Core.Path.{_≡_, refl, _∙_, ap}
 use mathlib.Core.List.{List}
 use native.Mathlib.Omega.{arith}
 use lib.ListN.{length, set, length-set}
@@ -8,11 +8,11 @@ use lib.Seq.{getD-set-same, getD-set-other}
 use Rattle.laws.specs.Values.{vec}
 use Rattle.tables.specs.Lists.{tablesOf, Sound, marketOf}
 use Rattle.stable_theory.specs.Rotations.Rotation.{Rotation, Exposed}
-use Rattle.stable_theory.specs.Rotations.CycleFrom.{wrapped, wrapped-inside, wrapped-row, cycleFrom, row-next, row-woman, cycle-exposed}
-use Rattle.rotation_path.specs.Path.{manAt, placeAt, womanAt}
+use Rattle.stable_theory.specs.Rotations.CycleFrom.{wrapped, wrapped-inside, wrapped-row, cycleFrom, row-woman, cycle-exposed}
+use Rattle.rotation_path.specs.Path.{manAt, placeAt}
 use Rattle.rotation_waits.specs.Laws.Left.{left-most}
 use Rattle.rotation_notes.specs.ManNoted.{Fits, Blank}
-use Rattle.rotation_notes.specs.RotationNoted.{BlankFor, RotationNoted}
+use Rattle.rotation_notes.specs.RotationNoted.{RotationNoted}
 use Rattle.rotation_notes.specs.Writing.{LowestFrame, PairNoted, CycleFrames, BlankExposed, RotationWritten}
 use Rattle.rotation_notes.specs.Laws.RotationNoted.{rotation-start, rotation-blank, rotation-on}
 use Rattle.rotation_notes.specs.Laws.Pairs.{PairsIn, pairs-start, pairs-on, pairs-end}

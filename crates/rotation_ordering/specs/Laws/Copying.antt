@@ -6,7 +6,7 @@ use native.Mathlib.Omega.{arith}
 use lib.ListN.{length, set}
 use Rattle.laws.specs.Stores.{Stores, stores-start, stores-on}
 use Rattle.laws.specs.Values.{vec}
-use Rattle.rotation_elimination.specs.Written.{rotationIn, around}
+use Rattle.rotation_elimination.specs.Written.{rotationIn}
 use Rattle.rotation_elimination.specs.Laws.Written.{around-inside}
 use Rattle.rotation_ordering.specs.Ordering.{Copied}
 

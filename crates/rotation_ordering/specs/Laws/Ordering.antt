@@ -4,12 +4,12 @@ use Prim.Native.Nat.{ℕ, suc, _+_, _-_, _*_, _≤_, _<_}
 use mathlib.Core.Path.{_≡_, refl, sym, _∙_, ap}
 use mathlib.Core.List.{List}
 use native.Mathlib.Omega.{arith}
-use lib.ListN.{length, set, length-set}
+use lib.ListN.{length, set}
 use Rattle.laws.specs.Choice.{split}
-use Rattle.laws.specs.Changed.{Changed, changed-set}
+use Rattle.laws.specs.Changed.{changed-set}
 use Rattle.laws.specs.Values.{vec}
 use Rattle.tables.specs.Lists.{tablesOf, Sound, marketOf}
-use Rattle.stable_theory.specs.Stable.Market.{Market, exchange}
+use Rattle.stable_theory.specs.Stable.Market.{exchange}
 use Rattle.stable_theory.specs.Stable.Vector.{Stable, Before, Mirror}
 use Rattle.stable_theory.specs.Stable.Holding.{Same}
 use Rattle.stable_theory.specs.Stable.Mirror.{mirror-order}
@@ -38,7 +38,7 @@ use Rattle.rotation_ordering.specs.Queue.{Enterable, SomeFrom, FirstFrom
 use Rattle.rotation_ordering.specs.Ordering.{Copied, reached, Ordered, Unwritten, Numbered}
 
 -- the first man read is the rotation's
-pub first-man : (pairs begin : List ℕ) (q : ℕ) → 0 < numbered pairs begin q .pairs → firstMan pairs begin q ≡ numbered pairs begin q .man 0
+first-man : (pairs begin : List ℕ) (q : ℕ) → 0 < numbered pairs begin q .pairs → firstMan pairs begin q ≡ numbered pairs begin q .man 0
 unfolding rotationIn
 first-man pairs begin q h =
     let e : vec begin q + 1 ≡ vec begin q + 1 + 2 * 0 = omega arith in

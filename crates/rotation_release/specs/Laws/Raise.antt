@@ -8,7 +8,7 @@ use lib.ListN.{length, set, length-set}
 use borrow.Author.Tests.{eq-eqb}
 use Rattle.laws.specs.Choice.{pick, same}
 use Rattle.laws.specs.Changed.{Changed, changed-set}
-use Rattle.laws.specs.Table.{cell, cell-lt}
+use Rattle.laws.specs.Table.{cell}
 use Rattle.laws.specs.Values.{vec}
 use Rattle.rotation_waits.specs.Queue.{Released}
 use Rattle.rotation_waits.specs.Waits.{waitsLeft}

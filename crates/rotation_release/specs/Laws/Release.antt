@@ -1,12 +1,11 @@
 -- One woman less for a rotation: what the code that does it computes. Assumes nothing.
 use Prim.Native.Nat.{ℕ, suc, _+_, _-_, _≤_, _<_, min}
-use mathlib.Core.Path.{_≡_, refl, sym, _∙_, ap}
+use mathlib.Core.Path.{_≡_}
 use mathlib.Core.List.{List}
 use native.Mathlib.Omega.{arith}
-use lib.Dec.{eqb}
 use lib.ListN.{length, set}
 use borrow.Author.Tests.{eq-eqb, ne-eqb}
-use Rattle.laws.specs.Choice.{pick, same}
+use Rattle.laws.specs.Choice.{same}
 use Rattle.laws.specs.Changed.{Changed, changed-set}
 use Rattle.laws.specs.Values.{vec}
 use Rattle.rotation_waits.specs.Queue.{Released}

@@ -2,7 +2,6 @@
 -- woman's place, and it falls by one for each cell with its name that a woman's place goes up past. Assumes nothing.
 use Prim.Native.Nat.{ℕ, suc, _+_, _*_, _≤_, _<_}
 use mathlib.Core.Path.{_≡_, refl, sym, _∙_, ap}
-use mathlib.Core.Bool.{Bool}
 use mathlib.Core.List.{List}
 use native.Mathlib.Omega.{arith}
 use lib.Dec.{eqb}
@@ -11,7 +10,7 @@ use lib.Seq.{getD-set-same, getD-set-other}
 use borrow.Author.Tests.{eq-eqb, ne-eqb}
 use Rattle.laws.specs.Choice.{pick, same}
 use Rattle.laws.specs.First.{clash}
-use Rattle.laws.specs.Sum.{sum, count}
+use Rattle.laws.specs.Sum.{count}
 use Rattle.laws.specs.SumLaws.{sum-le, sum-same, sum-grown-below, sum-none, sum-zero, count-most, count-none, count-zero}
 use Rattle.laws.specs.Rising.{sum-const}
 use Rattle.laws.specs.Table.{cell, cell-row, cell-column}
@@ -22,10 +21,10 @@ use Rattle.rotation_waits.specs.Waits.{waitsLeft}
 abbrev pub placed : ℕ → ℕ → (ℕ → ℕ) → ℕ → ℕ
 placed v x t w = pick (eqb w v) x (t w)
 
-pub placed-here : (v x : ℕ) (t : ℕ → ℕ) → placed v x t v ≡ x
+placed-here : (v x : ℕ) (t : ℕ → ℕ) → placed v x t v ≡ x
 placed-here v x t = rw (eq-eqb v v refl)
 
-pub placed-other : (v x : ℕ) (t : ℕ → ℕ) {w : ℕ} → (w ≡ v → ⊥) → placed v x t w ≡ t w
+placed-other : (v x : ℕ) (t : ℕ → ℕ) {w : ℕ} → (w ≡ v → ⊥) → placed v x t w ≡ t w
 placed-other v x t {w} ne = rw (ne-eqb w v ne)
 
 module _ (a b : ℕ) (waits : List ℕ) where

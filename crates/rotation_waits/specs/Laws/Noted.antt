@@ -32,7 +32,7 @@ noted-alike {I} {σ = σ} {best = best} e few N =
 
 -- t are places at which no woman is worse off than at `best`
 module _ {I : Market} {z : ℕ} {σ : ℕ → Rotation} {best : ℕ → ℕ} {waits : List ℕ} (N : Noted I z σ best waits) {t : ℕ → ℕ} (B : Before (exchange I) t best) {q : ℕ} where
-  pub left-clear : q < z → waitsLeft (I .proposers .size) (I .receivers .size) waits t q ≡ 0 → Clear I t (σ q)
+  left-clear : q < z → waitsLeft (I .proposers .size) (I .receivers .size) waits t q ≡ 0 → Clear I t (σ q)
   left-clear h e k w m =
       let a = I .proposers .size in
       let b = I .receivers .size in
@@ -40,7 +40,7 @@ module _ {I : Market} {z : ℕ} {σ : ℕ → Rotation} {best : ℕ → ℕ} {wa
       split (t w) (I .receivers .place w (σ q .man k)) (λ l. l)
       (λ l. absurd (left-none a b waits t e v l (N .all h m (omega (arith, B w v)))))
 
-  pub clear-left : Clear I t (σ q) → waitsLeft (I .proposers .size) (I .receivers .size) waits t q ≡ 0
+  clear-left : Clear I t (σ q) → waitsLeft (I .proposers .size) (I .receivers .size) waits t q ≡ 0
   clear-left clear =
       none-left (I .proposers .size) (I .receivers .size) waits t q
       (λ w x v l e. let A = N .rightly v (omega (arith, B w v)) e in

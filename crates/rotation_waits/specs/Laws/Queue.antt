@@ -2,12 +2,11 @@
 -- nobody has entered, and after an elimination those that are exposed then. Assumes nothing.
 use Prim.Native.Nat.{ℕ, suc, pred, _<_}
 use mathlib.Core.Path.{_≡_, sym, _∙_, ap}
-use mathlib.Core.Bool.{true, false}
+use mathlib.Core.Bool.{false}
 use mathlib.Core.Logic.{⊎-elim}
 use mathlib.Core.List.{List}
 use native.Mathlib.Omega.{arith}
-use Rattle.laws.specs.Choice.{split, same, tested}
-use Rattle.laws.specs.First.{clash}
+use Rattle.laws.specs.Choice.{split, tested}
 use Rattle.laws.specs.Changed.{Changed}
 use Rattle.stable_theory.specs.Stable.Market.{Market, Proper, exchange}
 use Rattle.stable_theory.specs.Stable.Vector.{Stable, Before, Mirror}

@@ -40,7 +40,7 @@ module _ {low top first : ℕ} (f : low ≤ first) (g : first < top) where
       (λ l. let e = wrapped-inside low top (first + k) l in (omega arith, omega arith))
 
   -- different numbers stay different
-  pub wrapped-once : {j k : ℕ} → j < k → k < top - low → wrapped low top (first + j) ≡ wrapped low top (first + k) → ⊥
+  wrapped-once : {j k : ℕ} → j < k → k < top - low → wrapped low top (first + j) ≡ wrapped low top (first + k) → ⊥
   wrapped-once {j} {k} l h e =
       split top (first + j)
       (λ a. omega (arith, wrapped-past low top (first + j) a, wrapped-past low top (first + k) (omega arith)))
@@ -49,20 +49,20 @@ module _ {low top first : ℕ} (f : low ≤ first) (g : first < top) where
       (λ b. omega (arith, wrapped-inside low top (first + j) a, wrapped-inside low top (first + k) b)))
 
   -- the next number is one more, or the first of the row after its last
-  pub wrapped-next : {k : ℕ} → k < top - low → suc (wrapped low top (first + k)) < top → wrapped low top (first + suc k) ≡ suc (wrapped low top (first + k))
+  wrapped-next : {k : ℕ} → k < top - low → suc (wrapped low top (first + k)) < top → wrapped low top (first + suc k) ≡ suc (wrapped low top (first + k))
   wrapped-next {k} h u =
       split top (first + k)
       (λ a. omega (arith, wrapped-past low top (first + k) a, wrapped-past low top (first + suc k) (omega arith)))
       (λ a. omega (arith, wrapped-inside low top (first + k) a, wrapped-inside low top (first + suc k) (omega (arith, wrapped-inside low top (first + k) a))))
 
-  pub wrapped-last : {k : ℕ} → k < top - low → suc (wrapped low top (first + k)) ≡ top → wrapped low top (first + suc k) ≡ low
+  wrapped-last : {k : ℕ} → k < top - low → suc (wrapped low top (first + k)) ≡ top → wrapped low top (first + suc k) ≡ low
   wrapped-last {k} h u =
       split top (first + k)
       (λ a. absurd (omega (arith, wrapped-past low top (first + k) a)))
       (λ a. omega (arith, wrapped-inside low top (first + k) a, wrapped-past low top (first + suc k) (omega (arith, wrapped-inside low top (first + k) a))))
 
   -- round once
-  pub wrapped-round : wrapped low top (first + (top - low)) ≡ wrapped low top (first + 0)
+  wrapped-round : wrapped low top (first + (top - low)) ≡ wrapped low top (first + 0)
   wrapped-round = omega (arith, wrapped-past low top (first + (top - low)) (omega arith), wrapped-inside low top (first + 0) (omega arith))
 
 module _ {I : Market} (M : Proper I) {p : ℕ → ℕ} {low top first : ℕ} {man woman : ℕ → ℕ} (C : FollowerCycle I p low top man woman)

@@ -1,7 +1,7 @@
 -- All rotations in any order, none twice: what the numbering needs of them. Assumes nothing.
 use Prim.Native.Nat.{ℕ, _≤_, _<_}
 use mathlib.Core.Path.{_≡_, sym, _∙_, ap}
-use mathlib.Core.Bool.{true, false}
+use mathlib.Core.Bool.{false}
 use native.Mathlib.Omega.{arith}
 use Rattle.laws.specs.Choice.{tested}
 use Rattle.laws.specs.First.{clash}
@@ -52,7 +52,7 @@ unordered-alike e U =
 
 module _ {I : Market} (M : Proper I) {z : ℕ} {σ : ℕ → Rotation} (U : Unordered I z σ) where
   -- what is exposed is one of them
-  pub unordered-has : {p : ℕ → ℕ} {τ : Rotation} → Stable I p → Exposed I p τ → (q : ℕ) × (q < z) × SamePairs (σ q) τ
+  unordered-has : {p : ℕ → ℕ} {τ : Rotation} → Stable I p → Exposed I p τ → (q : ℕ) × (q < z) × SamePairs (σ q) τ
   unordered-has P Y =
       let (k, h, s, _) = numbered M (rotations-canonical M .complete) P Y in
       let (q, g, t) = U .all h in

@@ -1,5 +1,4 @@
 -- `write_pair` meets its contract: the pair is stored, and then the women are noted. Assumes nothing.
-use native.Mathlib.Omega.{arith}
 use borrow.Author.Needs.{needs}
 use Rattle.laws.specs.Values.{vec}
 use Rattle.rotation_notes.specs.Laws.Writing.{pair-index, pair-blank, pair-noted}

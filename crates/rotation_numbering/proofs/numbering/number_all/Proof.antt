@@ -1,5 +1,4 @@
 -- `number_all` meets its contract: the rotations are found, in lists of zeros, and then numbered. Assumes nothing.
-use Prim.Native.Nat.{_≤_}
 use mathlib.Core.Path.{_≡_, sym, _∙_}
 use native.Mathlib.Omega.{arith}
 use borrow.Author.Needs.{needs}

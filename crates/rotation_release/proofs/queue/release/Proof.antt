@@ -1,6 +1,5 @@
 -- `release` meets its contract, by cases: there is no rotation of the name; it waits for somebody still; it waits for
 -- nobody and enters. Assumes nothing.
-use native.Mathlib.Omega.{arith}
 use borrow.Author.Needs.{needs}
 use Rattle.rotation_release.specs.Laws.Release.{no-name, name-inside, name-man, name-waits, name-still, name-last}
 use Rattle.rotation_release.proofs.queue.release.Statement.{statement}
