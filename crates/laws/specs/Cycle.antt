@@ -69,7 +69,7 @@ module _ (f : ℕ → ℕ) where
 
   module _ (n x : ℕ) (back : returns f n x ≡ true) where
     -- it comes back within n turns
-    pub period-le : period f n x ≤ n
+    period-le : period f n x ≤ n
     unfolding returns period
     period-le = ltb-true (first (backAfter f x) n) n back
 
@@ -79,7 +79,7 @@ module _ (f : ℕ → ℕ) where
     period-back = let h : first (backAfter f x) n < n = unfold period in period-le in eqb-true (iter f (period f n x) x) x (first-hit (backAfter f x) n h)
 
     -- before the period is over it does not come back
-    pub period-first : (k : ℕ) → 0 < k → k < period f n x → iter f k x ≡ x → ⊥
+    period-first : (k : ℕ) → 0 < k → k < period f n x → iter f k x ≡ x → ⊥
     unfolding period backAfter
     period-first zero l h e = omega arith
     period-first (suc k) l h e =

@@ -8,8 +8,6 @@ pub mod Marks
 pub mod Pigeon
 pub mod Onto
 pub mod Cycle
-pub mod Covered
-pub mod Round
 pub mod Sum
 pub mod SumLaws
 pub mod CountInto
@@ -20,7 +18,6 @@ pub mod Difference
 pub mod Values
 pub mod Moment
 pub mod Refill
-pub mod Walk
 pub mod Table
 pub mod Changed
 pub mod Front

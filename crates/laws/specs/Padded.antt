@@ -4,8 +4,9 @@ use Prim.Native.Nat.{ℕ, _+_, _-_, _≤_, _<_}
 use mathlib.Core.Path.{_≡_, sym, _∙_, ap}
 use mathlib.Core.List.{List, _++_}
 use native.Mathlib.Omega.{arith}
-use lib.ListN.{length, take, drop, replicate, length-append, length-drop, length-replicate, List·getD-append}
+use lib.ListN.{length, take, drop, replicate, length-append, length-take, length-drop, length-replicate, List·getD-append, List·getD-eq-default}
 use lib.Seq.{length-take-le, getD-take, getD-append-add, getD-drop}
+use Rattle.laws.specs.Choice.{split}
 use Rattle.laws.specs.Table.{zeros-read}
 use Rattle.laws.specs.Values.{vec}
 
@@ -17,12 +18,18 @@ zeros m = replicate m 0
 abbrev pub padded : ℕ → ℕ → List ℕ → List ℕ
 padded m n p = p ++ drop n (zeros m)
 
--- the front of the zeros has as many elements as were asked for, and they are zeros
+-- the front of the zeros has as many elements as were asked for, and they are zeros; past its end 0 is read too
 pub zeros-front : {m n : ℕ} → n ≤ m → length (take n (zeros m)) ≡ n
 zeros-front {m} {n} h = length-take-le n (zeros m) (omega (arith, length-replicate {A = ℕ} m 0))
 
 pub zeros-taken : (m n i : ℕ) → i < n → vec (take n (zeros m)) i ≡ 0
 zeros-taken m n i u = getD-take n (zeros m) i 0 u ∙ zeros-read m i
+
+pub zeros-part : (m n i : ℕ) → vec (take n (zeros m)) i ≡ 0
+zeros-part m n i =
+    split n i
+    (λ h. List·getD-eq-default (take n (zeros m)) 0 (omega (arith, length-take n (zeros m))))
+    (λ h. zeros-taken m n i h)
 
 module _ (m : ℕ) {n : ℕ} (p : List ℕ) (e : length p ≡ n) where
   -- the list's elements, and zeros past them

@@ -42,6 +42,15 @@ sum-passed n p q c h =
     sum-le n (λ i. pick (p i) (c i) 0) (λ i. pick (q i) (c i) 0)
     (λ i (u : i < n). tested {C = pick (p i) (c i) 0 ≤ pick (q i) (c i) 0} (p i) (λ e. rw (e, h i u e) (omega arith)) (λ e. rw e (omega arith)))
 
+-- a sum is 0 just where each term is
+pub sum-none : (n : ℕ) (f : ℕ → ℕ) → ((i : ℕ) → i < n → f i ≡ 0) → sum n f ≡ 0
+sum-none zero f h = refl
+sum-none (suc n) f h = omega (arith, sum-none n f (λ i u. h i (omega arith)), h n (omega arith))
+
+pub sum-zero : (n : ℕ) (f : ℕ → ℕ) → sum n f ≡ 0 → (i : ℕ) → i < n → f i ≡ 0
+sum-zero zero f e i u = absurd (omega arith)
+sum-zero (suc n) f e i u = same i n (λ q. rw q (omega arith)) (λ q. sum-zero n f (omega arith) i (omega arith))
+
 -- at most n numbers below n pass a test
 pub count-most : (n : ℕ) (p : ℕ → Bool) → count n p ≤ n
 count-most zero p = omega arith
@@ -50,6 +59,16 @@ count-most (suc n) p = omega (arith, count-most n p, one (p n))
     one : (t : Bool) → pick t 1 0 ≤ 1
     one true = omega arith
     one false = omega arith
+
+-- none is counted just where each fails
+pub count-none : (n : ℕ) (p : ℕ → Bool) → ((i : ℕ) → i < n → p i ≡ false) → count n p ≡ 0
+count-none n p h = sum-none n (λ i. pick (p i) 1 0) (λ i u. ap (λ (b : Bool). pick {A = ℕ} b 1 0) (h i u))
+
+pub count-zero : (n : ℕ) (p : ℕ → Bool) → count n p ≡ 0 → (i : ℕ) → i < n → p i ≡ false
+count-zero n p e i u =
+    tested (p i)
+    (λ t. absurd (omega (arith, sum-zero n (λ j. pick (p j) 1 0) e i u, ap (λ (b : Bool). pick {A = ℕ} b 1 0) t)))
+    (λ f. f)
 
 -- where all n numbers below n are counted, each passes
 pub count-all : (n : ℕ) (p : ℕ → Bool) → count n p ≡ n → (i : ℕ) → i < n → p i ≡ true

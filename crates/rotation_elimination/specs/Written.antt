@@ -7,10 +7,7 @@ use lib.Dec.{eqb}
 use lib.ListN.{length}
 use Rattle.laws.specs.Choice.{pick}
 use Rattle.laws.specs.Values.{vec}
-use Rattle.stable_theory.specs.Stable.Market.{Market}
 use Rattle.stable_theory.specs.Rotations.Rotation.{Rotation}
-use Rattle.stable_theory.specs.Rotations.Numbering.{rotationAt}
-use Rattle.rotation_search.specs.Pointers.{Advanced}
 
 -- number k of a cycle of c pairs, in which number c is number 0 again
 abbrev pub around : ℕ → ℕ → ℕ
@@ -41,10 +38,3 @@ offset ρ (suc k) = offset ρ k + (1 + 2 * ρ k .pairs)
 pub record Lists (ρ : ℕ → Rotation) (k : ℕ) (l : List ℕ) (end : ℕ) : Type 0 where
   pub ends : end ≡ offset ρ k
   pub written : {j : ℕ} → j < k → Written l (offset ρ j) (ρ j)
-
--- the rotation from x on, of c pairs, is written at `at`, and what stands before it is kept
-pub record WroteCycle (I : Market) (p t : ℕ → ℕ) (x : ℕ) (next : ℕ → ℕ) (before l : List ℕ) (at c : ℕ) : Type 0 where
-  pub pairs : c ≡ rotationAt I p x .pairs
-  pub written : Written l at (rotationAt I p x)
-  pub kept : (v : ℕ) → v < at → vec l v ≡ vec before v
-  pub advanced : Advanced I t next

@@ -1,5 +1,5 @@
-// One rotation, over slices of numbers: written from its lowest proposer, and eliminated.
+// One rotation in a list of numbers, and its elimination.
 mod elimination;
 
 pub use elimination::eliminate;
-pub use elimination::write_cycle;
+pub use elimination::round;

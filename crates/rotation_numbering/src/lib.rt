@@ -1,4 +1,4 @@
-// The rotations in order of number, over slices of numbers: each is written and eliminated.
+// The rotations of a record in order of number.
 mod numbering;
 
 pub use numbering::Extent;

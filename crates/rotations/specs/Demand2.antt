@@ -1,91 +1,155 @@
--- The second half of demand 2: "the rotations and their order are those of the published theory, and going from a
--- closed set of rotations to its matching and back, or the reverse, returns the start", in the words that the
--- contracts cite. Each proof is a citation of the theory (stable_theory, Rotations.Demand2Theory) at the market of a
--- book, or of ThereAndBack. Assumes nothing.
-use Prim.Native.Nat.{ℕ, _≤_, _<_}
+-- The second half of demand 2, whole: "the rotations and their order are those of the published theory, and going from
+-- a closed set of rotations to its matching and back, or the reverse, returns the start". The words are document 01's
+-- (ByteRotation.antt), over the bytes of a book and of its matchings; what is promised is of the replies, buffers,
+-- matchings and sets that the contracts cite. Each proof is a citation. Assumes nothing.
+use Prim.Native.Nat.{ℕ, suc, _≤_, _<_}
 use mathlib.Core.Path.{_≡_}
-use mathlib.Core.Bool.{true}
-use mathlib.Core.List.{List}
+use mathlib.Core.Bool.{true, false}
+use mathlib.Core.List.{List, _++_}
 use mathlib.Core.Logic.{_↔_}
-use Rattle.format.specs.Verdict.{fine}
+use lib.ListN.{length, take, drop}
+use Rattle.format.specs.Verdict.{fine, broken}
+use Rattle.format.specs.Outcome.{gives}
 use Rattle.format.specs.Format.{people}
-use Rattle.format.specs.WellFormed.{WellFormed, fine-well-formed}
-use Rattle.stable_theory.specs.Stable.Vector.{Stable}
-use Rattle.stable_theory.specs.Least.Optimal.{proposer-optimal}
-use Rattle.stable_theory.specs.Rotations.Rotation.{Rotation, Exposed, SamePairs, Run, Among, Precedes}
-use Rattle.stable_theory.specs.Rotations.Numbering.{rotation}
-use Rattle.stable_theory.specs.Rotations.Subset.{Closed, prefix}
-use Rattle.stable_theory.specs.Rotations.Canonical.{Canonical}
-use Rattle.stable_theory.specs.Rotations.Demand2Theory.{numbering, numbering-ends, numbering-all, numbering-once, precedence-test, precedence-irreflexive, closed-test, theorem-1-run, theorem-1-exactly, theorem-1-once, theorem-1-nothing-else}
-use Rattle.stable_theory.specs.Rotations.Runs.{Once}
-use Rattle.matchings.specs.BookMarket.{market, market-proper}
-use Rattle.matchings.specs.Matching.{vectorOf, checkMatching}
-use Rattle.matchings.specs.Laws.StableVector.{fine-vector}
-use Rattle.rotations.specs.RotationList.{rotationCount}
-use Rattle.rotations.specs.Precedence.{bookPrecedes}
-use Rattle.rotations.specs.Sets.{member, closedSet, checkSet, setMatching, matchingSet}
-use Rattle.rotations.specs.Laws.SetVerdict.{set-accepted, accepted-set, marks-good}
-use Rattle.rotations.specs.Laws.ThereAndBack.{set-member, set-matching-fine, set-there, matching-formed, matching-marks, matching-closed, matching-there}
+use Rattle.format.specs.WellFormed.{WellFormed}
+use Rattle.matchings.specs.Matching.{womanOf, checkMatching}
+use Rattle.matchings.specs.Laws.StableCheck.{fine-stable}
+use Rattle.rotations.specs.RotationList.{listReply, listBuffer}
+use Rattle.rotations.specs.Precedence.{precedenceReply}
+use Rattle.rotations.specs.Sets.{checkSet, setMatching, matchingSet}
+use Rattle.rotations.specs.ByteRotation.{Pairs, pairAt, NextIn, CycleIn, writtenFrom, ExposedIn, eliminated, NumberedIn, rotationNumber, bytesOf, endToEnd, RunTo, OneOf, EachOnce, PrecedesIn, SetIn, ClosedIn, Exactly}
+use Rattle.rotations.specs.Laws.NextMentors.{next-one}
+use Rattle.rotations.specs.Laws.WrittenCycles.{cycle-exposed}
+use Rattle.rotations.specs.Laws.Eliminations.{eliminated-next, eliminated-keeps, eliminated-stable}
+use Rattle.rotations.specs.Laws.EliminationRuns.{run-to-stable}
+use Rattle.rotations.specs.Laws.Numberings.{listed, numbered-one, numbered-listed}
+use Rattle.rotations.specs.Laws.NumberedRotations.{numbered-all, numbered-once, numbered-exposed}
+use Rattle.rotations.specs.Laws.RotationBytes.{reply-count, buffer-bytes, bytes-at, bytes-read}
+use Rattle.rotations.specs.Laws.NumberedOrder.{answer-yes, answer-no, itself-not, accepted-closed, refused-open}
+use Rattle.rotations.specs.Laws.NumberedRuns.{run-reaches, run-exactly, run-each-once, run-numbered, set-leads, closed-round, stable-round}
 
-module _ {b : List ℕ} (W : WellFormed b) where
-  -- the rotations listed are numbered as document 01 says: from the student-best matching on, of those exposed the
-  -- one that holds the lowest student
-  pub listed-canonical : Canonical (market b) (proposer-optimal (market b)) (rotationCount b) (rotation (market b))
-  listed-canonical = numbering (market-proper W)
+-- A matching m that the check calls stable
+module _ (b m : List ℕ) (stable : checkMatching b m ≡ fine) where
+  -- a student has one next mentor at most
+  pub next-at-most : (i w v : ℕ) → NextIn b m i w → NextIn b m i v → w ≡ v
+  next-at-most i w v N O = next-one (fine-stable b m .0 stable) N O
 
-  -- until none is exposed
-  pub listed-ends : {σ : Rotation} → Exposed (market b) (prefix (market b) (rotation (market b)) (proposer-optimal (market b)) (rotationCount b)) σ → ⊥
-  listed-ends Y = numbering-ends (market-proper W) Y
+  -- a cycle of pairs, whichever pair it is written from, is a rotation when it is written from its lowest student
+  pub cycle-rotation : (ρ : Pairs) → CycleIn b m ρ → (k : ℕ) × (k < length ρ) × ExposedIn b m (writtenFrom k ρ)
+  cycle-rotation ρ cycle = cycle-exposed cycle
 
-  -- they are all rotations exposed in any stable matching
-  pub listed-all : {r : ℕ → ℕ} {σ : Rotation} → Stable (market b) r → Exposed (market b) r σ → (k : ℕ) × (k < rotationCount b) × SamePairs σ (rotation (market b) k)
-  listed-all R Y = numbering-all (market-proper W) R Y
+  module _ (ρ : Pairs) (exposed : ExposedIn b m ρ) where
+    -- eliminating a rotation gives each of its students his next mentor
+    pub eliminating-gives : (k : ℕ) → k < length ρ → NextIn b m (pairAt ρ k .man) (womanOf (eliminated ρ m) (pairAt ρ k .man))
+    eliminating-gives = eliminated-next (fine-stable b m .0 stable) exposed
 
-  -- each once
-  pub listed-once : {j k : ℕ} → j < rotationCount b → k < rotationCount b → SamePairs (rotation (market b) j) (rotation (market b) k) → j ≡ k
-  listed-once g h s = numbering-once (market-proper W) g h s
+    -- the others keep theirs
+    pub eliminating-keeps :
+        (i : ℕ) → i < people b → ((k : ℕ) → k < length ρ → pairAt ρ k .man ≡ i → ⊥) → womanOf (eliminated ρ m) i ≡ womanOf m i
+    eliminating-keeps = eliminated-keeps (fine-stable b m .0 stable) exposed
 
-  -- the answer on precedence is document 01's, over every run of eliminations that exposes the second
-  pub precedence-right : {j k : ℕ} → j < rotationCount b → k < rotationCount b → (bookPrecedes b j k ≡ true) ↔ Precedes (market b) (rotation (market b) j) (rotation (market b) k)
-  precedence-right g h = precedence-test (market-proper W) g h
+    -- and the matching is stable again
+    pub eliminating-stable : checkMatching b (eliminated ρ m) ≡ fine
+    eliminating-stable = fine-stable b (eliminated ρ m) .1 (eliminated-stable (fine-stable b m .0 stable) exposed)
 
-  -- no rotation precedes itself
-  pub precedence-itself : {k : ℕ} → k < rotationCount b → Precedes (market b) (rotation (market b) k) (rotation (market b) k) → ⊥
-  precedence-itself h q = precedence-irreflexive (market-proper W) h q
+-- A well formed book
+module _ (b : List ℕ) (formed : WellFormed b) where
+  -- its rotations can be numbered as document 01 says: the elimination comes to an end
+  pub numbering : (l : List Pairs) × NumberedIn b l
+  numbering = (listed b, numbered-listed formed)
 
-  -- rule 16 is broken exactly by a set that does not hold whatever precedes its members
-  pub closed-right : (set : List ℕ) → (closedSet b set ≡ true) ↔ Closed (market b) (rotationCount b) (rotation (market b)) (member set)
-  closed-right set = closed-test (market-proper W) (member set)
+  -- and in one way only
+  pub numbering-one : (l k : List Pairs) → NumberedIn b l → NumberedIn b k → l ≡ k
+  numbering-one l k N O = numbered-one formed N O
 
-module _ (b m : List ℕ) (e : checkMatching b m ≡ fine) where
-  -- a run of eliminations from the student-best matching ends at each stable matching
-  pub run-exists : (l : List Rotation) × Run (market b) (vectorOf b m) l
-  run-exists = theorem-1-run (market-proper (matching-formed b m e)) (fine-vector b m e)
+  -- a run of eliminations from the student-best matching leads to each stable matching
+  pub run-exists : (m : List ℕ) → checkMatching b m ≡ fine → (r : List Pairs) × RunTo b m r
+  run-exists m stable = run-reaches (fine-stable b m .0 stable)
 
-  module _ {l : List Rotation} (run : Run (market b) (vectorOf b m) l) where
-    -- and every such run eliminates exactly the rotations of its set
-    pub run-eliminates : {k : ℕ} → k < rotationCount b → (member (matchingSet b m) k ≡ true) ↔ Among (rotation (market b) k) l
-    run-eliminates {k} h = rw (set-member b m k h) (theorem-1-exactly (market-proper (matching-formed b m e)) run h)
+  -- Its rotations, in order of number
+  module _ (l : List Pairs) (numbered : NumberedIn b l) where
+    -- the reply for the list of rotations is how many there are
+    pub list-reply : (room : ℕ) → length (endToEnd l) ≤ room → listReply b room ≡ gives (length l)
+    list-reply room fits = reply-count formed numbered fits
 
-    -- none twice
-    pub run-once : Once l
-    run-once = theorem-1-once (market-proper (matching-formed b m e)) run
+    -- the buffer holds them end to end
+    pub list-bytes :
+        (out : List ℕ) → length (endToEnd l) ≤ length out → listBuffer b out ≡ endToEnd l ++ drop (length (endToEnd l)) out
+    list-bytes = buffer-bytes formed numbered
 
-    -- and nothing else
-    pub run-nothing-else : {σ : Rotation} → Among σ l → (k : ℕ) × (k < rotationCount b) × SamePairs σ (rotation (market b) k)
-    run-nothing-else a = theorem-1-nothing-else (market-proper (matching-formed b m e)) run a
+    -- each after those before it
+    pub list-rotation :
+        (k : ℕ) → k < length l → endToEnd l ≡ endToEnd (take k l) ++ bytesOf (rotationNumber l k) ++ endToEnd (drop (suc k) l)
+    list-rotation = bytes-at l
 
--- a set that is accepted is closed, its matching is stable, and the matching's set is the set
-pub set-round : (b set : List ℕ) (room : ℕ) → checkSet b set room ≡ fine →
-    Closed (market b) (rotationCount b) (rotation (market b)) (member set) × (checkMatching b (setMatching b set) ≡ fine) × (matchingSet b (setMatching b set) ≡ set)
-set-round b set room e =
-    let A = set-accepted b set room e in
-    let W = fine-well-formed b .0 (A .fine) in
-    (closed-right W set .0 (A .closed), set-matching-fine W set (A .closed), set-there W set (A .closed) (marks-good b set (A .marks)))
+    -- and no other rotations have these bytes
+    pub list-read : (k : List Pairs) → endToEnd k ≡ endToEnd l → k ≡ l
+    list-read k e = bytes-read k l e
 
--- a stable matching's set is accepted, and the set's matching is the matching
-pub matching-round : (b m : List ℕ) (room : ℕ) → people b ≤ room → checkMatching b m ≡ fine → (checkSet b (matchingSet b m) room ≡ fine) × (setMatching b (matchingSet b m) ≡ m)
-matching-round b m room h e = (
-  accepted-set b (matchingSet b m) room (record { fine = fine-well-formed b .1 (matching-formed b m e); marks = matching-marks b m e; closed = matching-closed b m e; fits = h }),
-  matching-there b m e,
-)
+    -- they are all rotations that are exposed in any stable matching
+    pub listed-all : (m : List ℕ) (ρ : Pairs) → checkMatching b m ≡ fine → ExposedIn b m ρ → OneOf ρ l
+    listed-all m ρ stable exposed = numbered-all formed numbered (fine-stable b m .0 stable) exposed
+
+    -- and no others
+    pub listed-only : (ρ : Pairs) → OneOf ρ l → (m : List ℕ) × (checkMatching b m ≡ fine) × ExposedIn b m ρ
+    listed-only ρ one = let (m, S, X) = numbered-exposed formed numbered one in (m, fine-stable b m .1 S, X)
+
+    -- each once
+    pub listed-once : EachOnce l
+    listed-once = numbered-once formed numbered
+
+    -- Two rotation numbers
+    module _ (j k : ℕ) (first : j < length l) (second : k < length l) where
+      -- the answer is yes exactly where the first precedes the second, over every run of eliminations
+      pub precedence-yes : precedenceReply b j k ≡ gives true ↔ PrecedesIn b (rotationNumber l j) (rotationNumber l k)
+      precedence-yes = answer-yes formed numbered first second
+
+      -- and no exactly where it does not
+      pub precedence-no : precedenceReply b j k ≡ gives false ↔ (PrecedesIn b (rotationNumber l j) (rotationNumber l k) → ⊥)
+      precedence-no = answer-no formed numbered first second
+
+    -- no rotation precedes itself
+    pub precedence-itself : (m : List ℕ) (ρ : Pairs) → checkMatching b m ≡ fine → ExposedIn b m ρ → PrecedesIn b ρ ρ → ⊥
+    precedence-itself m ρ stable exposed = itself-not formed numbered (listed-all m ρ stable exposed)
+
+    -- a set is accepted exactly where it has one mark a rotation and holds whatever precedes its members, and there is
+    -- room for its matching
+    pub closed-accepted : (set : List ℕ) (room : ℕ) → checkSet b set room ≡ fine ↔ (SetIn l set × ClosedIn b l set × (people b ≤ room))
+    closed-accepted = accepted-closed formed numbered
+
+    -- A set of the rotations, one mark a rotation
+    module _ (set : List ℕ) (given : SetIn l set) where
+      -- it is refused by rule 16 exactly where it does not hold whatever precedes its members
+      pub open-refused : (room : ℕ) → checkSet b set room ≡ broken 16 0 ↔ (ClosedIn b l set → ⊥)
+      open-refused = refused-open formed numbered given
+
+      -- the matching of a closed set is stable, and going there and back returns the set
+      pub set-round : ClosedIn b l set → (checkMatching b (setMatching b set) ≡ fine) × (matchingSet b (setMatching b set) ≡ set)
+      set-round = closed-round formed numbered given
+
+    -- the set of a stable matching is a closed set of the rotations, and going there and back returns the matching
+    pub matching-round : (m : List ℕ) → checkMatching b m ≡ fine →
+        SetIn l (matchingSet b m) × ClosedIn b l (matchingSet b m) × (setMatching b (matchingSet b m) ≡ m)
+    matching-round = stable-round formed numbered
+
+    -- A run of eliminations from the student-best matching to m
+    module _ (m : List ℕ) (r : List Pairs) (run : RunTo b m r) where
+      -- m is stable
+      pub run-stable : checkMatching b m ≡ fine
+      run-stable = fine-stable b m .1 (run-to-stable formed run)
+
+      -- the run eliminates exactly the rotations of the set of m
+      pub run-set : Exactly l (matchingSet b m) r
+      run-set = run-exactly formed numbered run
+
+      -- none twice
+      pub run-once : EachOnce r
+      run-once = run-each-once formed numbered run
+
+      -- and nothing else
+      pub run-only : (ρ : Pairs) → OneOf ρ r → OneOf ρ l
+      run-only ρ one = run-numbered formed numbered run one
+
+      -- a set of exactly the rotations that the run eliminates is the set of m, and has the matching m
+      pub run-matching : (set : List ℕ) → SetIn l set → Exactly l set r → (matchingSet b m ≡ set) × (setMatching b set ≡ m)
+      run-matching set given exactly = set-leads formed numbered run given exactly

@@ -12,6 +12,7 @@ pub mod SameRotation
 pub mod RotationAt
 pub mod Choose
 pub mod FollowerCycle
+pub mod CycleFrom
 pub mod Subset
 pub mod Canonical
 pub mod Rebuild
@@ -25,5 +26,8 @@ pub mod RotationCount
 pub mod SharedMan
 pub mod Cover
 pub mod CanonicalStep
+pub mod Clear
+pub mod Unordered
+pub mod Finding
 pub mod RotationAlike
 pub mod Demand2Theory

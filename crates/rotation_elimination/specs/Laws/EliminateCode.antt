@@ -7,6 +7,7 @@ use native.Mathlib.Omega.{arith}
 use native.Mathlib.Numerals.{add-one}
 use lib.ListN.{set}
 use Rattle.laws.specs.Choice.{split}
+use Rattle.laws.specs.Stores.{Stores}
 use Rattle.laws.specs.FrontStores.{stores-front, front-stored, front-kept}
 use Rattle.laws.specs.Table.{cell}
 use Rattle.laws.specs.Values.{vec}
@@ -15,16 +16,17 @@ use Rattle.stable_theory.specs.Rotations.Rotation.{Rotation, pairOf, eliminate}
 use Rattle.stable_theory.specs.Rotations.Eliminate.{pairOf-man, pairOf-upto, eliminate-in, eliminate-out}
 use Rattle.stable_theory.specs.Rotations.EliminateMirror.{TurnedBack}
 use Rattle.rotation_elimination.specs.Written.{around, rotationIn}
-use Rattle.rotation_elimination.specs.Elimination.{Eliminable, Eliminating}
+use Rattle.rotation_elimination.specs.Elimination.{Turnable, Eliminable, Eliminating}
 use Rattle.rotation_elimination.specs.Laws.Written.{around-inside, around-end}
 
-module _ {a b : ℕ} {pranks rranks l : List ℕ} {at : ℕ} {p t : List ℕ} (N : Eliminable a b pranks rranks l at p t) {k : ℕ} (h : k < vec l at) where
+-- a rotation that stands in a list, and may be eliminated
+module _ {a b : ℕ} (l : List ℕ) (at : ℕ) (T : Turnable a b (rotationIn l at)) {k : ℕ} (h : k < vec l at) where
   -- the man read of pair k
   pub man-read : {m : ℕ} → m ≡ vec l (at + 1 + 2 * k) → (m ≡ rotationIn l at .man k) × (m < a)
   unfolding rotationIn
   man-read e =
       let q = e ∙ ap (λ (j : ℕ). vec l (at + 1 + 2 * j)) (sym (around-inside h)) in
-      (q, omega (arith, N .turnable .men h))
+      (q, omega (arith, T .men h))
 
   module _ {c r : ℕ} (f : c ≡ vec l at) (e : r ≡ around c (k + 1)) where
     -- the number of the following pair
@@ -39,8 +41,9 @@ module _ {a b : ℕ} {pranks rranks l : List ℕ} {at : ℕ} {p t : List ℕ} (N
     unfolding rotationIn
     woman-read g =
         let q = g ∙ ap (λ (j : ℕ). vec l (at + 2 + 2 * j)) (e ∙ (ap (λ (n : ℕ). around n (k + 1)) f ∙ ap (around (vec l at)) (add-one k))) in
-        (q, omega (arith, N .turnable .women h))
+        (q, omega (arith, T .women h))
 
+module _ {a b : ℕ} {pranks rranks l : List ℕ} {at : ℕ} {p t : List ℕ} (N : Eliminable a b pranks rranks l at p t) {k : ℕ} (h : k < vec l at) where
   -- one pair more is eliminated
   pub eliminating-on : {q u : List ℕ} → Eliminating a b pranks rranks (rotationIn l at) p t k q u → {m w x y : ℕ} → m ≡ rotationIn l at .man k →
       w ≡ rotationIn l at .woman (suc k) → x ≡ cell pranks b m w → y ≡ cell rranks a w m →
@@ -67,11 +70,14 @@ module _ {a b : ℕ} {pranks rranks : List ℕ} {ρ : Rotation} {p t q u : List 
       ap (vec q) (sym e) ∙ (front-stored (E .men) h ∙ (agrees (pairOf ρ i) h
       ∙ (ap (λ (m : ℕ). I .proposers .place m (ρ .woman (suc (pairOf ρ i)))) e ∙ sym (eliminate-in I ρ (vec p) h)))))
 
-  -- and the women have the men of the pairs before
-  pub women-turned : (I : Market) → ((k : ℕ) → k < ρ .pairs → cell rranks a (ρ .woman (suc k)) (ρ .man k) ≡ I .receivers .place (ρ .woman (suc k)) (ρ .man k)) →
-      TurnedBack I ρ (vec t) (vec u)
-  women-turned I agrees =
-      record {
-        moved = λ k h. front-stored (E .women) h ∙ agrees k h;
-        kept = λ w f. front-kept (E .women) w f;
-      }
+-- and the women have the men of the pairs before
+pub women-turned :
+    (I : Market) (a : ℕ) (rranks : List ℕ) (ρ : Rotation) {t u : List ℕ} →
+    Stores 0 (ρ .pairs) (λ j. ρ .woman (suc j)) (λ j. cell rranks a (ρ .woman (suc j)) (ρ .man j)) t u →
+    ((k : ℕ) → k < ρ .pairs → cell rranks a (ρ .woman (suc k)) (ρ .man k) ≡ I .receivers .place (ρ .woman (suc k)) (ρ .man k)) →
+    TurnedBack I ρ (vec t) (vec u)
+women-turned I a rranks ρ S agrees =
+    record {
+      moved = λ k h. front-stored S h ∙ agrees k h;
+      kept = λ w f. front-kept S w f;
+    }

@@ -63,11 +63,6 @@ written-kept m {at} end W h e same =
       room = omega (arith, W .room);
     }
 
--- each rotation takes one number at least
-pub offset-ge : (ρ : ℕ → Rotation) (k : ℕ) → k ≤ offset ρ k
-offset-ge ρ zero = omega arith
-offset-ge ρ (suc k) = omega (arith, offset-ge ρ k)
-
 -- each rotation ends before the later ones start
 pub offset-after : (ρ : ℕ → Rotation) {j : ℕ} (k : ℕ) → j < k → offset ρ j + 1 + 2 * ρ j .pairs ≤ offset ρ k
 offset-after ρ zero h = absurd (omega arith)

@@ -16,7 +16,8 @@ use Rattle.stable_theory.specs.Rotations.Canonical.{rotations-complete}
 use Rattle.stable_theory.specs.Rotations.Rebuild.{run-vector}
 use Rattle.matchings.specs.BookMarket.{market, market-proper, market-complete}
 use Rattle.rotation_numbering.specs.declared.numbering.Extent.{Extent}
-use Rattle.rotation_numbering.specs.Numbering.{Numbered, NumberingOf}
+use Rattle.rotation_ordering.specs.Ordering.{Numbered}
+use Rattle.rotation_numbering.specs.Numbering.{NumberingOf}
 use Rattle.rotation_numbering.specs.Laws.Numbers.{numbering-book}
 use Rattle.rotations.specs.RotationList.{listBytes}
 use Rattle.rotation_numbering.specs.Laws.ListBytes.{Small, exposed-small, lists-bytes, lists-long, lists-within, lists-small}

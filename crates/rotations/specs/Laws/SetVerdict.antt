@@ -1,13 +1,13 @@
 -- The verdict on a set, rule by rule, and what is known where nothing is refused. Assumes nothing.
 use Prim.Native.Nat.{ℕ, _≤_, _<_}
-use mathlib.Core.Path.{_≡_, sym, _∙_, ap}
+use mathlib.Core.Path.{_≡_, sym, _∙_, ap, ap₂}
 use mathlib.Core.Bool.{Bool, true, false, not}
 use mathlib.Core.List.{List}
 use lib.ListN.{length}
 use lib.Dec.{ltb, eqb}
-use borrow.Author.Tests.{ltb-false, eqb-true, not-false}
+use borrow.Author.Tests.{le-ltb, ltb-false, eq-eqb, eqb-true, not-false}
 use Rattle.laws.specs.Choice.{either, either-none}
-use Rattle.laws.specs.First.{some, some-none}
+use Rattle.laws.specs.First.{some, some-false, some-none}
 use Rattle.format.specs.Verdict.{Verdict, fine, refused, broken, rule}
 use Rattle.format.specs.Laws.Verdict.{stays, goes-on, all-fine, rule-fine}
 use Rattle.format.specs.Outcome.{checkRoom}
@@ -88,6 +88,13 @@ marks-good b set e =
       long = eqb-true (length set) (rotationCount b) (not-false (eqb (length set) (rotationCount b)) (h .0));
       small = λ k u. ltb-false 1 (markIn set k) (some-none (λ k. ltb 1 (markIn set k)) (h .1) u);
     }
+
+-- and back
+pub good-marks : (b set : List ℕ) → GoodMarks b set → badMarks b set ≡ false
+unfolding badMarks
+good-marks b set G =
+    ap₂ either (ap not (eq-eqb (length set) (rotationCount b) (G .long)))
+    (some-false (λ k. ltb 1 (markIn set k)) (λ k (u : k < length set). le-ltb 1 (markIn set k) (G .small k u)))
 
 -- the code's test of the marks, by its own number of rotations, is rule 15
 pub marks-test : (b set : List ℕ) {count : ℕ} {answer : Bool} → count ≡ rotationCount b →

@@ -1,15 +1,14 @@
 -- From a closed set to its matching and back, and from a stable matching to its set and back, mark by mark and entry
 -- by entry. Assumes nothing.
 use Prim.Native.Nat.{ℕ, _≤_, _<_}
-use mathlib.Core.Path.{_≡_, refl, sym, _∙_, ap, ap₂}
-use mathlib.Core.Bool.{Bool, true, false, not}
+use mathlib.Core.Path.{_≡_, refl, sym, _∙_, ap}
+use mathlib.Core.Bool.{Bool, true, false}
 use mathlib.Core.List.{List}
 use native.Mathlib.Omega.{arith}
 use lib.ListN.{length}
-use lib.Dec.{ltb, eqb}
-use borrow.Author.Tests.{eq-eqb, ne-eqb, le-ltb}
-use Rattle.laws.specs.Choice.{pick, either, same}
-use Rattle.laws.specs.First.{some-false}
+use lib.Dec.{eqb}
+use borrow.Author.Tests.{eq-eqb, ne-eqb}
+use Rattle.laws.specs.Choice.{pick, same}
 use Rattle.laws.specs.Values.{length-values, values-same}
 use Rattle.format.specs.Verdict.{fine}
 use Rattle.format.specs.Format.{people, markIn}
@@ -28,12 +27,18 @@ use Rattle.stable_theory.specs.Rotations.ClosedSubset.{closed-agree}
 use Rattle.stable_theory.specs.Rotations.Demand2Theory.{theorem-1-matching, theorem-1-there, theorem-1-subset, theorem-1-back, closed-test}
 use Rattle.matchings.specs.BookMarket.{market, market-proper}
 use Rattle.matchings.specs.Matching.{vectorOf, checkMatching}
+use Rattle.matchings.specs.Extreme.{matchingOf}
 use Rattle.matchings.specs.Laws.StableCheck.{fine-stable}
 use Rattle.matchings.specs.Laws.StableVector.{fine-vector, matching-back, vector-fine, vector-back}
 use Rattle.rotations.specs.RotationList.{rotationCount}
-use Rattle.rotations.specs.Sets.{member, badMarks, closedSet, setVector, setMatching, matchingSet}
+use Rattle.rotations.specs.Sets.{member, closedSet, setVector, setMatching, matchingSet}
 use Rattle.rotations.specs.Laws.SetVerdict.{GoodMarks}
 use Rattle.stable_theory.specs.Rotations.Subset
+
+-- places that agree have one matching
+pub matching-agree : (b : List ℕ) {p q : ℕ → ℕ} → Same (market b) p q → matchingOf b p ≡ matchingOf b q
+unfolding partners market
+matching-agree b {p} {q} e = values-same (people b) (partners (market b) p) (partners (market b) q) (λ i u. rw (e i u))
 
 -- the mark of a test, and the test of a mark
 bit-test : (t : Bool) → eqb (pick t 1 0) 1 ≡ t
@@ -55,6 +60,16 @@ set-mark b m h = mark-stored (rotationCount b) (λ k. pick (setOf (market b) (ro
 pub set-long : (b m : List ℕ) → length (matchingSet b m) ≡ rotationCount b
 unfolding matchingSet
 set-long b m = length-values (λ k. pick (setOf (market b) (rotation (market b)) (vectorOf b m) k) 1 0) 0 (rotationCount b)
+
+-- none over 1
+pub set-good : (b m : List ℕ) → GoodMarks b (matchingSet b m)
+set-good b m =
+    record {
+      long = set-long b m;
+      small = λ k u.
+          let h : k < rotationCount b = omega (arith, set-long b m) in
+          omega (arith, set-mark b m h, bit-small (setOf (market b) (rotation (market b)) (vectorOf b m) k));
+    }
 
 -- a rotation is in it exactly where the matching is past it
 pub set-member : (b m : List ℕ) (k : ℕ) → k < rotationCount b → member (matchingSet b m) k ≡ setOf (market b) (rotation (market b)) (vectorOf b m) k
@@ -99,16 +114,6 @@ module _ (b m : List ℕ) (e : checkMatching b m ≡ fine) where
       closed-test M (member (matchingSet b m)) .1
       (closed-agree M (rotations-complete M) (λ k h. sym (set-member b m k h)) (theorem-1-subset M (fine-vector b m e)))
 
-  -- with good marks
-  pub matching-marks : badMarks b (matchingSet b m) ≡ false
-  unfolding badMarks
-  matching-marks =
-      ap₂ either (ap not (eq-eqb (length (matchingSet b m)) (rotationCount b) (set-long b m)))
-      (some-false (λ k. ltb 1 (markIn (matchingSet b m) k))
-      (λ k (u : k < length (matchingSet b m)).
-      let h : k < rotationCount b = omega (arith, set-long b m) in
-      le-ltb 1 (markIn (matchingSet b m) k) (omega (arith, set-mark b m h, bit-small (setOf (market b) (rotation (market b)) (vectorOf b m) k)))))
-
   -- and the places of the set are those of the matching
   there-vector : Same (market b) (setVector b (matchingSet b m)) (vectorOf b m)
   unfolding Subset.vectorOf
@@ -118,7 +123,5 @@ module _ (b m : List ℕ) (e : checkMatching b m ≡ fine) where
 
   -- so the matching of the set is the matching
   pub matching-there : setMatching b (matchingSet b m) ≡ m
-  unfolding setMatching partners market
-  matching-there =
-      values-same (people b) (partners (market b) (setVector b (matchingSet b m))) (partners (market b) (vectorOf b m)) (λ i u. rw (there-vector i u))
-      ∙ matching-back (fine-stable b m .0 e .matching)
+  unfolding setMatching
+  matching-there = matching-agree b there-vector ∙ matching-back (fine-stable b m .0 e .matching)

@@ -1,6 +1,5 @@
 -- One step of the numbering, for a program that finds the rotations one by one: whatever is exposed in the vector
--- reached and holds the lowest proposer is the rotation that comes next, pair for pair; and where none is exposed the
--- numbering is at its end. Assumes nothing.
+-- reached and holds the lowest proposer is the rotation that comes next, pair for pair. Assumes nothing.
 use Prim.Native.Nat.{ℕ, _≤_, _<_}
 use mathlib.Core.Path.{_≡_}
 use native.Mathlib.Omega.{arith}
@@ -41,7 +40,3 @@ module _ {I : Market} (M : Proper I) where
         let l = step-on h Y in
         let X = C .complete .exposed l in
         exposed-once (run-vector M (C .complete) k h) Y X 0 0 (Y .some) (X .some) (omega (arith, C .lowest l Y 0 (Y .some), low (ρ k) X))
-
-    -- where none is exposed, it is at its end
-    pub step-end : {k : ℕ} → k ≤ z → ((τ : Rotation) → Exposed I (prefix I ρ (proposer-optimal I) k) τ → ⊥) → k ≡ z
-    step-end {k} h no-more = split z k (λ l. omega arith) (λ l. absurd (no-more (ρ k) (C .complete .exposed l)))

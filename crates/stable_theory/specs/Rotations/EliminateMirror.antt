@@ -1,5 +1,5 @@
 -- The other side of a vector after an elimination: each receiver of the rotation has the proposer of the pair before,
--- every other whom she had. So no receiver is worse off. Assumes nothing.
+-- every other whom she had. Assumes nothing.
 use Prim.Native.Nat.{ℕ, suc, _≤_, _<_}
 use mathlib.Core.Path.{_≡_, sym, _∙_, ap}
 use native.Mathlib.Omega.{arith}
@@ -9,12 +9,11 @@ use Rattle.laws.specs.Choice.{split}
 use Rattle.laws.specs.First.{first, first-hit}
 use Rattle.laws.specs.Cycle.{first-upto}
 use Rattle.stable_theory.specs.Stable.Market.{Market, Proper, exchange, acceptable-back}
-use Rattle.stable_theory.specs.Stable.Vector.{Holds, Stable, Before, Mirror}
+use Rattle.stable_theory.specs.Stable.Vector.{Holds, Stable, Mirror}
 use Rattle.stable_theory.specs.Stable.Holding.{held-unique, holder-unique, rank-injective}
-use Rattle.stable_theory.specs.Stable.Mirror.{mirror-order}
 use Rattle.stable_theory.specs.Rotations.Rotation.{Rotation, Exposed, pairOf, eliminate}
 use Rattle.stable_theory.specs.Rotations.ExtraVector.{place-injective}
-use Rattle.stable_theory.specs.Rotations.Eliminate.{turn, pair-before, follower-in, holds-pair, eliminate-out, eliminate-at, eliminate-after}
+use Rattle.stable_theory.specs.Rotations.Eliminate.{turn, pair-before, follower-in, holds-pair, eliminate-out, eliminate-at}
 use Rattle.stable_theory.specs.Rotations.EliminateStable.{eliminate-stable}
 
 -- u is t but for the receivers of the rotation, each of whom has the proposer of the pair before
@@ -73,7 +72,3 @@ module _ {I : Market} (M : Proper I) {p t : ℕ → ℕ} (P : Stable I p) (N : M
             (λ o. out-there o (record { pair = h .pair; is = sym (eliminate-out I ρ p o) ∙ h .is }));
         back = λ {i} {w} h. receiver-or-not ρ w (in-back h) (out-back h);
       }
-
-  -- no receiver is worse off
-  pub eliminate-mirror-before : Before (exchange I) u t
-  eliminate-mirror-before = mirror-order M N eliminate-mirror (eliminate-stable M P X) (eliminate-after X)

@@ -1,13 +1,13 @@
 -- How many rotations a stable vector is past: none at the proposers' best, one more after each elimination, whatever
 -- the order, and all at the receivers' best. Assumes nothing.
-use Prim.Native.Nat.{ℕ, _+_, _<_}
+use Prim.Native.Nat.{ℕ, _+_, _≤_, _<_}
 use mathlib.Core.Path.{_≡_, sym, _∙_, ap}
 use mathlib.Core.Bool.{Bool, true}
 use native.Mathlib.Omega.{arith}
 use native.Mathlib.Nat.{mul-one, mul-zero}
 use Rattle.laws.specs.Choice.{pick, tested}
 use Rattle.laws.specs.Sum.{count}
-use Rattle.laws.specs.SumLaws.{sum-grown-below}
+use Rattle.laws.specs.SumLaws.{sum-grown-below, count-most}
 use Rattle.laws.specs.Rising.{sum-const}
 use Rattle.stable_theory.specs.Stable.Market.{Market, Proper}
 use Rattle.stable_theory.specs.Stable.Vector.{Stable}
@@ -23,6 +23,11 @@ use Rattle.stable_theory.specs.Rotations.OneRotation.{passed-later, elim
 -- how many of the rotations ρ 0 to ρ (z - 1) the vector r is past
 unfoldable pub passedCount : Market → ℕ → (ℕ → Rotation) → (ℕ → ℕ) → ℕ
 passedCount I z ρ r = count z (λ k. passed I (ρ k) r)
+
+-- no more than there are
+pub passed-most : (I : Market) (z : ℕ) (ρ : ℕ → Rotation) (r : ℕ → ℕ) → passedCount I z ρ r ≤ z
+unfolding passedCount
+passed-most I z ρ r = count-most z (λ k. passed I (ρ k) r)
 
 module _ {I : Market} (M : Proper I) {z : ℕ} {ρ : ℕ → Rotation} (C : Complete I (proposer-optimal I) z ρ) where
   -- the number that a test adds to a count

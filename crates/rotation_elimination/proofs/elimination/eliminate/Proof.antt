@@ -30,10 +30,13 @@ man :
     (c : tie.After-wide2 Inv-loop μ-loop) →
     let s = start (turn c) in
     (c .wide2 .result ≡ rotationIn (s .args .list .now) (s .args .at) .man (turn c .loop .k)) × (c .wide2 .result < s .args .a)
-man c = man-read (start (turn c) .pre) (omega arith) (c .wide2 .ensures .0)
+man c = let s = start (turn c) in man-read (s .args .list .now) (s .args .at) (s .pre .turnable) (omega arith) (c .wide2 .ensures .0)
 
 following : (c : tie.After-round Inv-loop μ-loop) → let s = start (turn (c .before)) in c .round .result < vec (s .args .list .now) (s .args .at)
-following c = let l = turn (c .before) in around-lt (start l .pre) {k = l .loop .k} (omega arith) (search) (c .round .ensures)
+following c =
+    let l = turn (c .before) in
+    let s = start l in
+    around-lt (s .args .list .now) (s .args .at) (s .pre .turnable) {k = l .loop .k} (omega arith) (search) (c .round .ensures)
 
 woman :
     (c : tie.After-wide3 Inv-loop μ-loop) →
@@ -42,7 +45,8 @@ woman :
     (c .wide3 .result ≡ rotationIn (s .args .list .now) (s .args .at) .woman (suc (l .loop .k))) × (c .wide3 .result < s .args .b)
 woman c =
     let r : tie.After-round Inv-loop μ-loop = search in
-    woman-read (start (turn (r .before)) .pre) (omega arith) (search) (r .round .ensures) (c .wide3 .ensures .0)
+    let s = start (turn (r .before)) in
+    woman-read (s .args .list .now) (s .args .at) (s .pre .turnable) (omega arith) (search) (r .round .ensures) (c .wide3 .ensures .0)
 
 loop-again : tie.Need-loop-again Inv-loop μ-loop
 loop-again c =
