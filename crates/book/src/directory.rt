@@ -1,11 +1,13 @@
 // n and the directory of any bytes: those past the end count as 0.
 use crate::field::wide;
+use format::Instance;
 use format::Man;
 use format::Woman;
 ghost use mathlib.Core.Path.{_≡_};
 ghost use Prim.Native.Nat.{_+_, _<_};
 ghost use Rattle.laws.specs.Moment.{now₀};
 ghost use Rattle.format.specs.Format.{byte, word, people, offset, listLength};
+ghost use Rattle.format.specs.Record.{isSmall};
 
 // Where a person's list lies, by the directory: its offset in the book, and how many entries it has.
 pub struct ListPlace {
@@ -38,6 +40,17 @@ pub fn people_in(book: &[u8]) -> usize
     ensures { λ r. ⌜ (r ≡ people (now₀ book)) × (r < 256) ⌝ }
 {
     byte_in(book, 1)
+}
+
+// Whether small tables do for n.
+pub fn is_small(book: &[u8]) -> bool
+    ensures { λ r. ⌜ r ≡ isSmall (people (now₀ book)) ⌝ }
+{
+    let n = people_in(book);
+    if n == 0 {
+        return false;
+    }
+    n - 1 < Instance::SMALL
 }
 
 // Where list k lies.

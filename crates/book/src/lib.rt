@@ -1,8 +1,9 @@
 // Books: the check (rules 1 to 7), one person's list, and what the crates above read of a book, a row of entries and a
 // set of marks. Contracts cite the definitions of crate `format`; specs/Laws/ has the laws of the loops.
 //
-// `check`, `framed`, `book_end`, `people_in`, `first_faulty` and the functions on one person take any bytes. Those that
-// read or write an entry or a mark, cut a part out or check one list serve the crates above, and have a `requires`.
+// `check`, `framed`, `book_end`, `people_in`, `is_small`, `first_faulty` and the functions on one person take any bytes.
+// Those that read or write an entry or a mark, cut a part out or check one list serve the crates above, and have a
+// `requires`.
 mod directory;
 mod field;
 mod frame;
@@ -13,6 +14,7 @@ mod row;
 mod rules;
 
 pub use directory::ListPlace;
+pub use directory::is_small;
 pub use directory::man_place;
 pub use directory::people_in;
 pub use directory::woman_place;

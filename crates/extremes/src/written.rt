@@ -2,6 +2,7 @@
 use crate::matching_bytes::write_matching;
 use crate::optimal::Proposers;
 use crate::optimal::extreme_places;
+use book::is_small;
 use book::refuse;
 use format::Checked;
 use format::Instance;
@@ -11,7 +12,7 @@ ghost use mathlib.Core.List.{_++_};
 ghost use Prim.Native.Nat.{_≤_};
 ghost use lib.ListN.{length, drop};
 ghost use Rattle.laws.specs.Moment.{now₀, now₁};
-ghost use Rattle.format.specs.Record.{Record, lent};
+ghost use Rattle.format.specs.Record.{Record, lent, LongTables};
 ghost use Rattle.format.specs.Outcome.{checkRoom};
 ghost use Rattle.format.specs.Verdict.{andThen, verdictOf};
 ghost use Rattle.matchings.specs.Extreme.{manOptimal, womanOptimal, checkExtreme, extremeBuffer};
@@ -40,18 +41,59 @@ fn extreme(proposers: Proposers, book: &[u8], out: &mut [u8]) -> Checked
     ensures verdict { λ r. ⌜ verdictOf r ≡ checkExtreme (now₀ book) (length (now₀ out)) ⌝ }
     ensures bytes { λ _. ⌜ now₁ out ≡ extremeBuffer (now₀ book) (extremeMatching proposers (now₀ book)) (now₀ out) ⌝ }
 {
+    if is_small(book) {
+        let mut mlists = [0u16; Instance::SMALL_LISTS];
+        let mut mranks = [0u16; Instance::SMALL_RANKS];
+        let mut wlists = [0u16; Instance::SMALL_LISTS];
+        let mut wranks = [0u16; Instance::SMALL_RANKS];
+        return extreme_with(
+            proposers,
+            book,
+            &mut mlists,
+            &mut mranks,
+            &mut wlists,
+            &mut wranks,
+            out,
+        );
+    }
     let mut mlists = [0u16; Instance::LISTS];
     let mut mranks = [0u16; Instance::RANKS];
     let mut wlists = [0u16; Instance::LISTS];
     let mut wranks = [0u16; Instance::RANKS];
-    let instance = load(book, &mut mlists, &mut mranks, &mut wlists, &mut wranks);
+    extreme_with(
+        proposers,
+        book,
+        &mut mlists,
+        &mut mranks,
+        &mut wlists,
+        &mut wranks,
+        out,
+    )
+}
+
+// The same with lent tables.
+fn extreme_with(
+    proposers: Proposers,
+    book: &[u8],
+    mlists: &mut [u16],
+    mranks: &mut [u16],
+    wlists: &mut [u16],
+    wranks: &mut [u16],
+    out: &mut [u8],
+) -> Checked
+    requires { ⌜ LongTables (now book) (now mlists) (now mranks) ⌝ }
+    requires { ⌜ LongTables (now book) (now wlists) (now wranks) ⌝ }
+    ensures verdict { λ r. ⌜ verdictOf r ≡ checkExtreme (now₀ book) (length (now₀ out)) ⌝ }
+    ensures bytes { λ _. ⌜ now₁ out ≡ extremeBuffer (now₀ book) (extremeMatching proposers (now₀ book)) (now₀ out) ⌝ }
+{
+    let instance = load(book, mlists, mranks, wlists, wranks);
     let answer = instance.checked;
     let n = instance.n;
     let checked = check_room(answer, n, out.len());
     let Checked::Fine = checked else {
         return checked;
     };
-    write_extreme(proposers, n, &mlists, &mranks, &wlists, &wranks, out);
+    write_extreme(proposers, n, mlists, mranks, wlists, wranks, out);
     checked
 }
 

@@ -1,5 +1,5 @@
 -- What the proofs cite: chains of rules, outcomes, bounds, rows, faulty lists, numbers of refusals, the stages of the
--- check, the directory, one person's list, the two sides, a right frame, the bytes written. Assumes nothing.
+-- check, the directory, one person's list, the two sides, a right frame, lent tables, the bytes written. Assumes nothing.
 pub mod Verdict
 pub mod Outcome
 pub mod Bounds
@@ -12,5 +12,6 @@ pub mod Directory
 pub mod Person
 pub mod Sides
 pub mod Frame
+pub mod LongTables
 pub mod Written
 pub mod ListBytes

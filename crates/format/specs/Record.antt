@@ -1,8 +1,10 @@
 -- The record of an instance: every entry of every table, from the bytes of the book. Assumes nothing.
-use Prim.Native.Nat.{ℕ, _+_, _*_, _<_}
+use Prim.Native.Nat.{ℕ, zero, suc, _+_, _*_, _≤_, _<_}
 use mathlib.Core.Path.{_≡_}
+use mathlib.Core.Bool.{Bool, false}
 use mathlib.Core.List.{List}
-use lib.ListN.{length, replicate}
+use lib.ListN.{length}
+use lib.Dec.{ltb}
 use denote.Ref.{RefT}
 use Rattle.laws.specs.Table.{cell}
 use Rattle.format.specs.declared.record.Instance.{Instance}
@@ -11,12 +13,14 @@ use Rattle.format.specs.Format.{largest, people, listLength, entry}
 use Rattle.format.specs.Check.{checkBook}
 use Rattle.format.specs.Place.{place}
 
--- How many cells a table of lists and a table of ranks have
-abbrev pub listCells : ℕ
-listCells = largest * (largest + 1)
+-- Up to which n small tables do
+abbrev pub small : ℕ
+small = 16
 
-abbrev pub rankCells : ℕ
-rankCells = largest * largest
+-- Whether they do for n: not for 0, where there is nothing to store
+abbrev pub isSmall : ℕ → Bool
+isSmall zero = false
+isSmall (suc k) = ltb k small
 
 -- What a cell of a table of ranks holds before it is filled: no place
 abbrev pub unranked : ℕ
@@ -28,8 +32,8 @@ pub record SideTables (b : List ℕ) (n from : ℕ) (lists ranks : List ℕ) : T
   pub entries : {i j : ℕ} → i < n → j < n → cell lists n i j ≡ entry b (from + i) j
   pub lengths : {i : ℕ} → i < n → cell lists n n i ≡ listLength b (from + i)
   pub places : {i w : ℕ} → i < n → w < n → cell ranks n i w ≡ place b (from + i) w
-  pub lists-long : length lists ≡ listCells
-  pub ranks-long : length ranks ≡ rankCells
+  pub lists-long : n * n + n ≤ length lists
+  pub ranks-long : n * n ≤ length ranks
 
 -- The tables of n men and n women, as one value
 pub record Record : Type 0 where
@@ -63,7 +67,7 @@ pub record Recorded (b : List ℕ) (i : Instance) (r : Record) : Type 0 where
   pub tables : RecordIs b (numberIf (checkBook b) (people b)) r
   pub number : i .n ≡ r .n
 
--- Tables as they are lent: long enough for the largest n, whatever they hold
-pub record LongTables (lists ranks : List ℕ) : Type 0 where
-  pub lists-long : length lists ≡ listCells
-  pub ranks-long : length ranks ≡ rankCells
+-- Tables of a side as they are lent for a book: long enough for its n where that is not too large, whatever they hold
+pub record LongTables (b lists ranks : List ℕ) : Type 0 where
+  pub lists-long : people b ≤ largest → people b * people b + people b ≤ length lists
+  pub ranks-long : people b ≤ largest → people b * people b ≤ length ranks

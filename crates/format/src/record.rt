@@ -18,6 +18,13 @@ impl Instance {
 
     pub const RANKS: usize = Instance::LARGEST * Instance::LARGEST;
 
+    // The same of small tables, which are a sixteenth of the size.
+    pub const SMALL: usize = 16;
+
+    pub const SMALL_LISTS: usize = Instance::SMALL * (Instance::SMALL + 1);
+
+    pub const SMALL_RANKS: usize = Instance::SMALL * Instance::SMALL;
+
     // What every cell of a table of ranks holds before it is filled: no place.
     pub const UNRANKED: u16 = 32768;
 }

@@ -1,4 +1,5 @@
 // The grade of a matching.
+use book::is_small;
 use format::Checked;
 use format::Instance;
 use pair_answers::answer_pairs;
@@ -8,7 +9,7 @@ use stability::judge;
 ghost use mathlib.Core.Path.{_≡_};
 ghost use Rattle.laws.specs.Moment.{now₀};
 ghost use Rattle.format.specs.Outcome.{after};
-ghost use Rattle.format.specs.Record.{Record, lent};
+ghost use Rattle.format.specs.Record.{Record, lent, LongTables};
 ghost use Rattle.format.specs.Verdict.{verdictOf};
 ghost use Rattle.stability.specs.Judge.{FromBook, EachBook};
 ghost use Rattle.repairs.specs.Grade.{gradeOutcome, gradeReply};
@@ -18,21 +19,50 @@ ghost use Rattle.repairs.specs.Grade.{gradeOutcome, gradeReply};
 pub fn grade(book: &[u8], matching: &[u8]) -> Graded
     ensures { λ r. ⌜ gradeOutcome r ≡ gradeReply (now₀ book) (now₀ matching) ⌝ }
 {
+    if is_small(book) {
+        let mut mlists = [0u16; Instance::SMALL_LISTS];
+        let mut mranks = [0u16; Instance::SMALL_RANKS];
+        let mut wlists = [0u16; Instance::SMALL_LISTS];
+        let mut wranks = [0u16; Instance::SMALL_RANKS];
+        return grade_with(
+            book,
+            &mut mlists,
+            &mut mranks,
+            &mut wlists,
+            &mut wranks,
+            matching,
+        );
+    }
     let mut mlists = [0u16; Instance::LISTS];
     let mut mranks = [0u16; Instance::RANKS];
     let mut wlists = [0u16; Instance::LISTS];
     let mut wranks = [0u16; Instance::RANKS];
-    let instance = load(book, &mut mlists, &mut mranks, &mut wlists, &mut wranks);
-    let answer = instance.checked;
-    grade_in(
-        answer,
-        instance.n,
-        &mlists,
-        &mranks,
-        &wlists,
-        &wranks,
+    grade_with(
+        book,
+        &mut mlists,
+        &mut mranks,
+        &mut wlists,
+        &mut wranks,
         matching,
     )
+}
+
+// The same with lent tables.
+fn grade_with(
+    book: &[u8],
+    mlists: &mut [u16],
+    mranks: &mut [u16],
+    wlists: &mut [u16],
+    wranks: &mut [u16],
+    matching: &[u8],
+) -> Graded
+    requires { ⌜ LongTables (now book) (now mlists) (now mranks) ⌝ }
+    requires { ⌜ LongTables (now book) (now wlists) (now wranks) ⌝ }
+    ensures { λ r. ⌜ gradeOutcome r ≡ gradeReply (now₀ book) (now₀ matching) ⌝ }
+{
+    let instance = load(book, mlists, mranks, wlists, wranks);
+    let answer = instance.checked;
+    grade_in(answer, instance.n, mlists, mranks, wlists, wranks, matching)
 }
 
 // The same from what is made of the book: for each book of which that is made.

@@ -1,5 +1,6 @@
 // The closed set of a stable matching: the rotations that its places are past, one mark, 0 or 1, a rotation.
 use book::count_after;
+use book::is_small;
 use book::put_mark;
 use book::refuse;
 use format::Checked;
@@ -9,6 +10,7 @@ use precedence::next_start;
 use precedence::past;
 use record::load;
 use rotation_numbering::ROOM;
+use rotation_numbering::SMALL_ROOM;
 use rotation_numbering::number_all;
 use stability::judge;
 ghost use mathlib.Core.Path.{_≡_};
@@ -17,6 +19,8 @@ ghost use Prim.Native.Nat.{_*_, _≤_};
 ghost use lib.ListN.{length, drop};
 ghost use Rattle.laws.specs.Moment.{now₀, now₁, vec₀};
 ghost use Rattle.format.specs.Outcome.{countOutcome};
+ghost use Rattle.format.specs.Record.{LongTables};
+ghost use Rattle.rotation_numbering.specs.Numbering.{LongList};
 ghost use Rattle.rotations.specs.Sets.{matchingSetReply, matchingSetBuffer};
 ghost use Rattle.precedence.specs.ListRead.{pastBytes, Readable};
 
@@ -41,24 +45,70 @@ pub fn matching_to_set(book: &[u8], matching: &[u8], out: &mut [u8]) -> Counted
     ensures reply { λ r. ⌜ countOutcome r ≡ matchingSetReply (now₀ book) (now₀ matching) (length (now₀ out)) ⌝ }
     ensures bytes { λ _. ⌜ now₁ out ≡ matchingSetBuffer (now₀ book) (now₀ matching) (now₀ out) ⌝ }
 {
+    if is_small(book) {
+        let mut mlists = [0u16; Instance::SMALL_LISTS];
+        let mut mranks = [0u16; Instance::SMALL_RANKS];
+        let mut wlists = [0u16; Instance::SMALL_LISTS];
+        let mut wranks = [0u16; Instance::SMALL_RANKS];
+        let mut list = [0u16; SMALL_ROOM];
+        return matching_with(
+            book,
+            &mut mlists,
+            &mut mranks,
+            &mut wlists,
+            &mut wranks,
+            &mut list,
+            matching,
+            out,
+        );
+    }
     let mut mlists = [0u16; Instance::LISTS];
     let mut mranks = [0u16; Instance::RANKS];
     let mut wlists = [0u16; Instance::LISTS];
     let mut wranks = [0u16; Instance::RANKS];
-    let instance = load(book, &mut mlists, &mut mranks, &mut wlists, &mut wranks);
+    let mut list = [0u16; ROOM];
+    matching_with(
+        book,
+        &mut mlists,
+        &mut mranks,
+        &mut wlists,
+        &mut wranks,
+        &mut list,
+        matching,
+        out,
+    )
+}
+
+// The same with lent tables and a list for the rotations.
+fn matching_with(
+    book: &[u8],
+    mlists: &mut [u16],
+    mranks: &mut [u16],
+    wlists: &mut [u16],
+    wranks: &mut [u16],
+    list: &mut [u16],
+    matching: &[u8],
+    out: &mut [u8],
+) -> Counted
+    requires { ⌜ LongTables (now book) (now mlists) (now mranks) ⌝ }
+    requires { ⌜ LongTables (now book) (now wlists) (now wranks) ⌝ }
+    requires { ⌜ LongList (now book) (now list) ⌝ }
+    ensures reply { λ r. ⌜ countOutcome r ≡ matchingSetReply (now₀ book) (now₀ matching) (length (now₀ out)) ⌝ }
+    ensures bytes { λ _. ⌜ now₁ out ≡ matchingSetBuffer (now₀ book) (now₀ matching) (now₀ out) ⌝ }
+{
+    let instance = load(book, mlists, mranks, wlists, wranks);
     let read = instance.checked;
     let n = instance.n;
-    let judged = judge(read, n, &mlists, &mranks, &wlists, &wranks, matching);
+    let judged = judge(read, n, mlists, mranks, wlists, wranks, matching);
     let answer = judged.checked;
     let Checked::Fine = answer else {
         return count_after(answer, 0);
     };
-    let mut list = [0u16; ROOM];
-    let extent = number_all(n, &mlists, &mranks, &wlists, &wranks, &mut list[..]);
+    let extent = number_all(n, mlists, mranks, wlists, wranks, list);
     let count = extent.count;
     if out.len() < count {
         return count_after(refuse(14, 0), 0);
     }
-    write_set(n, &mranks, &list, &judged.places.men, count, out);
+    write_set(n, mranks, list, &judged.places.men, count, out);
     Counted::Count(count)
 }

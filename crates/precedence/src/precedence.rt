@@ -1,11 +1,13 @@
 // The order of rotations: one precedes another if the least stable matching past the other is past it too.
 use crate::least_past::least_past;
 use crate::least_past::place_after;
+use book::is_small;
 use book::refuse;
 use format::Checked;
 use format::Instance;
 use record::load;
 use rotation_numbering::ROOM;
+use rotation_numbering::SMALL_ROOM;
 use rotation_numbering::number_all;
 use rotations::Precedence;
 use tables::wide;
@@ -17,6 +19,8 @@ ghost use Rattle.laws.specs.Values.{vec};
 ghost use Rattle.format.specs.Outcome.{after};
 ghost use Rattle.format.specs.Record.{Record, lent};
 ghost use Rattle.format.specs.Verdict.{verdictOf};
+ghost use Rattle.format.specs.Record.{LongTables};
+ghost use Rattle.rotation_numbering.specs.Numbering.{LongList};
 ghost use Rattle.instances.specs.Usable.{Usable};
 ghost use Rattle.rotations.specs.Precedence.{precedenceOutcome, precedenceReply};
 ghost use Rattle.precedence.specs.ListRead.{startIn, pastIn, Readable};
@@ -26,18 +30,63 @@ ghost use Rattle.precedence.specs.LeastPast.{SomePast, PastLeast};
 pub fn precedes(book: &[u8], first: usize, second: usize) -> Precedence
     ensures { λ r. ⌜ precedenceOutcome r ≡ precedenceReply (now₀ book) first second ⌝ }
 {
+    if is_small(book) {
+        let mut mlists = [0u16; Instance::SMALL_LISTS];
+        let mut mranks = [0u16; Instance::SMALL_RANKS];
+        let mut wlists = [0u16; Instance::SMALL_LISTS];
+        let mut wranks = [0u16; Instance::SMALL_RANKS];
+        let mut list = [0u16; SMALL_ROOM];
+        return precedes_with(
+            book,
+            &mut mlists,
+            &mut mranks,
+            &mut wlists,
+            &mut wranks,
+            &mut list,
+            first,
+            second,
+        );
+    }
     let mut mlists = [0u16; Instance::LISTS];
     let mut mranks = [0u16; Instance::RANKS];
     let mut wlists = [0u16; Instance::LISTS];
     let mut wranks = [0u16; Instance::RANKS];
-    let instance = load(book, &mut mlists, &mut mranks, &mut wlists, &mut wranks);
+    let mut list = [0u16; ROOM];
+    precedes_with(
+        book,
+        &mut mlists,
+        &mut mranks,
+        &mut wlists,
+        &mut wranks,
+        &mut list,
+        first,
+        second,
+    )
+}
+
+// The same with lent tables and a list for the rotations.
+fn precedes_with(
+    book: &[u8],
+    mlists: &mut [u16],
+    mranks: &mut [u16],
+    wlists: &mut [u16],
+    wranks: &mut [u16],
+    list: &mut [u16],
+    first: usize,
+    second: usize,
+) -> Precedence
+    requires { ⌜ LongTables (now book) (now mlists) (now mranks) ⌝ }
+    requires { ⌜ LongTables (now book) (now wlists) (now wranks) ⌝ }
+    requires { ⌜ LongList (now book) (now list) ⌝ }
+    ensures { λ r. ⌜ precedenceOutcome r ≡ precedenceReply (now₀ book) first second ⌝ }
+{
+    let instance = load(book, mlists, mranks, wlists, wranks);
     let answer = instance.checked;
     let Checked::Fine = answer else {
         return say(answer, false);
     };
     let n = instance.n;
-    let mut list = [0u16; ROOM];
-    let extent = number_all(n, &mlists, &mranks, &wlists, &wranks, &mut list[..]);
+    let extent = number_all(n, mlists, mranks, wlists, wranks, list);
     let count = extent.count;
     if count <= first {
         return say(refuse(11, 0), false);
@@ -50,11 +99,11 @@ pub fn precedes(book: &[u8], first: usize, second: usize) -> Precedence
     }
     let past = past_second(
         n,
-        &mlists,
-        &mranks,
-        &wlists,
-        &wranks,
-        &list,
+        mlists,
+        mranks,
+        wlists,
+        wranks,
+        list,
         count,
         first,
         second,

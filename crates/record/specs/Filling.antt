@@ -1,5 +1,5 @@
 -- Filling the tables of one side from the bytes of its n lists. Assumes nothing.
-use Prim.Native.Nat.{ℕ, _*_, _≤_, _<_}
+use Prim.Native.Nat.{ℕ, _+_, _*_, _≤_, _<_}
 use mathlib.Core.Path.{_≡_}
 use mathlib.Core.Bool.{Bool}
 use mathlib.Core.List.{List}
@@ -9,7 +9,7 @@ use Rattle.laws.specs.Every.{every}
 use Rattle.laws.specs.Table.{cell}
 use Rattle.laws.specs.Values.{vec}
 use Rattle.format.specs.Format.{largest}
-use Rattle.format.specs.Record.{listCells, rankCells, unranked}
+use Rattle.format.specs.Record.{unranked}
 
 -- The bytes l are n lists of n entries, end to end, and every entry is below n
 pub record Block (n : ℕ) (l : List ℕ) : Type 0 where
@@ -21,6 +21,7 @@ pub record Block (n : ℕ) (l : List ℕ) : Type 0 where
 pub record ListsFilled (n : ℕ) (l lists : List ℕ) : Type 0 where
   pub entries : {i j : ℕ} → i < n → j < n → cell lists n i j ≡ cell l n i j
   pub lengths : {i : ℕ} → i < n → cell lists n n i ≡ n
+  pub room : n * n + n ≤ length lists
 
 -- Ranks of the numbers below n by the first m entries of a list l: a rank below m is a place of the number on it, any
 -- other rank is no place, and each of the entries has a rank below m
@@ -52,5 +53,3 @@ pub record RanksFilled (n : ℕ) (l ranks : List ℕ) (full : Bool) : Type 0 whe
 pub record SideFilled (n : ℕ) (l lists ranks : List ℕ) (full : Bool) : Type 0 where
   pub in-lists : ListsFilled n l lists
   pub in-ranks : RanksFilled n l ranks full
-  pub lists-long : length lists ≡ listCells
-  pub ranks-long : length ranks ≡ rankCells

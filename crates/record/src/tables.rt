@@ -8,6 +8,8 @@ use format::Checked;
 use format::Framed;
 use format::Instance;
 ghost use mathlib.Core.Path.{_≡_};
+ghost use Prim.Native.Nat.{_+_, _*_, _≤_};
+ghost use lib.ListN.{length};
 ghost use Rattle.laws.specs.Moment.{now₀, now₁};
 ghost use Rattle.format.specs.Verdict.{verdictOf};
 ghost use Rattle.format.specs.Check.{checkBook};
@@ -18,13 +20,13 @@ ghost use Rattle.record.specs.Filling.{Block, SideFilled};
 // may hold anything afterwards.
 pub fn load(
     book: &[u8],
-    mlists: &mut [u16; Instance::LISTS],
-    mranks: &mut [u16; Instance::RANKS],
-    wlists: &mut [u16; Instance::LISTS],
-    wranks: &mut [u16; Instance::RANKS],
+    mlists: &mut [u16],
+    mranks: &mut [u16],
+    wlists: &mut [u16],
+    wranks: &mut [u16],
 ) -> Instance
-    requires { ⌜ LongTables (now mlists) (now mranks) ⌝ }
-    requires { ⌜ LongTables (now wlists) (now wranks) ⌝ }
+    requires { ⌜ LongTables (now book) (now mlists) (now mranks) ⌝ }
+    requires { ⌜ LongTables (now book) (now wlists) (now wranks) ⌝ }
     ensures { λ r. ⌜ Recorded (now₀ book) r (recordOf (r .n) (now₁ mlists) (now₁ mranks) (now₁ wlists) (now₁ wranks)) ⌝ }
 {
     let frame = framed(book);
@@ -54,13 +56,8 @@ fn without_tables(book: &[u8]) -> Instance
 }
 
 // Fills the tables of one side from the bytes of its lists, and says whether each list names everybody.
-fn fill_side(
-    bytes: &[u8],
-    n: usize,
-    lists: &mut [u16; Instance::LISTS],
-    ranks: &mut [u16; Instance::RANKS],
-) -> bool
-    requires { ⌜ Block n (now bytes) × LongTables (now lists) (now ranks) ⌝ }
+fn fill_side(bytes: &[u8], n: usize, lists: &mut [u16], ranks: &mut [u16]) -> bool
+    requires { ⌜ Block n (now bytes) × (n * n + n ≤ length (now lists)) × (n * n ≤ length (now ranks)) ⌝ }
     ensures { λ r. ⌜ SideFilled n (now₀ bytes) (now₁ lists) (now₁ ranks) r ⌝ }
 {
     fill_lists(bytes, n, lists);

@@ -1,5 +1,6 @@
 // Repair of a pair: the request's rules, the nearest repair, and the two result buffers.
 use book::entry_in;
+use book::is_small;
 use book::refuse;
 use format::Checked;
 use format::Instance;
@@ -12,7 +13,7 @@ ghost use Prim.Native.Nat.{_≤_};
 ghost use lib.ListN.{length};
 ghost use Rattle.laws.specs.Moment.{now₀, now₁};
 ghost use Rattle.format.specs.Outcome.{after};
-ghost use Rattle.format.specs.Record.{Record, lent};
+ghost use Rattle.format.specs.Record.{Record, lent, LongTables};
 ghost use Rattle.format.specs.Verdict.{verdictOf};
 ghost use Rattle.stability.specs.Judge.{FromBook};
 ghost use Rattle.repairs.specs.Repair.{fixed, repairOutcome, repairReply, repairMatching, repairGains};
@@ -33,20 +34,68 @@ pub fn repair(
     ensures bytes { λ _. ⌜ now₁ out ≡ repairMatching (now₀ book) (now₀ matching) (now₀ request) (now₀ out) (now₀ gains) ⌝ }
     ensures places { λ _. ⌜ now₁ gains ≡ repairGains (now₀ book) (now₀ matching) (now₀ request) (now₀ out) (now₀ gains) ⌝ }
 {
+    if is_small(book) {
+        let mut mlists = [0u16; Instance::SMALL_LISTS];
+        let mut mranks = [0u16; Instance::SMALL_RANKS];
+        let mut wlists = [0u16; Instance::SMALL_LISTS];
+        let mut wranks = [0u16; Instance::SMALL_RANKS];
+        return repair_with(
+            book,
+            &mut mlists,
+            &mut mranks,
+            &mut wlists,
+            &mut wranks,
+            matching,
+            request,
+            out,
+            gains,
+        );
+    }
     let mut mlists = [0u16; Instance::LISTS];
     let mut mranks = [0u16; Instance::RANKS];
     let mut wlists = [0u16; Instance::LISTS];
     let mut wranks = [0u16; Instance::RANKS];
-    let instance = load(book, &mut mlists, &mut mranks, &mut wlists, &mut wranks);
+    repair_with(
+        book,
+        &mut mlists,
+        &mut mranks,
+        &mut wlists,
+        &mut wranks,
+        matching,
+        request,
+        out,
+        gains,
+    )
+}
+
+// The same with lent tables.
+fn repair_with(
+    book: &[u8],
+    mlists: &mut [u16],
+    mranks: &mut [u16],
+    wlists: &mut [u16],
+    wranks: &mut [u16],
+    matching: &[u8],
+    request: &[u8],
+    out: &mut [u8],
+    gains: &mut [i8],
+) -> Answer
+    requires { ⌜ LongTables (now book) (now mlists) (now mranks) ⌝ }
+    requires { ⌜ LongTables (now book) (now wlists) (now wranks) ⌝ }
+    ensures reply { λ r. ⌜ repairOutcome r ≡ repairReply (now₀ book) (now₀ matching) (now₀ request) (now₀ out) (now₀ gains) ⌝ }
+    ensures bytes { λ _. ⌜ now₁ out ≡ repairMatching (now₀ book) (now₀ matching) (now₀ request) (now₀ out) (now₀ gains) ⌝ }
+    ensures places { λ _. ⌜ now₁ gains ≡ repairGains (now₀ book) (now₀ matching) (now₀ request) (now₀ out) (now₀ gains) ⌝ }
+{
+    let instance = load(book, mlists, mranks, wlists, wranks);
     let answer = instance.checked;
     let n = instance.n;
     repair_in(
         answer,
         n,
-        &mlists,
-        &mranks,
-        &wlists,
-        &wranks,
+        mlists,
+        mranks,
+        wlists,
+        wranks,
         matching,
         request,
         out,

@@ -1,32 +1,33 @@
 -- All rotations of a record's market in order of number, in a list of numbers. Assumes nothing.
-use Prim.Native.Nat.{ℕ, _*_, _/_}
+use Prim.Native.Nat.{ℕ, _*_, _≤_, _<_}
 use mathlib.Core.Path.{_≡_}
 use mathlib.Core.List.{List}
 use lib.ListN.{length}
-use Rattle.format.specs.Format.{largest}
+use Rattle.format.specs.Format.{largest, people}
 use Rattle.format.specs.Record.{Record}
 use Rattle.instances.specs.Usable.{marketIn}
 use Rattle.laws.specs.Values.{vec}
 use Rattle.rotation_ordering.specs.Ordering.{Numbered}
 use Rattle.rotation_numbering.specs.declared.numbering.Extent.{Extent}
 
--- how many numbers the list has room for: two and a half for each place of the largest book
-abbrev pub listRoom : ℕ
-listRoom = 5 * (largest * largest) / 2
+-- A list has room for the rotations of n men: two and a half numbers for each place
+abbrev pub ListRoom : ℕ → List ℕ → Type 0
+ListRoom n list = 5 * (n * n) ≤ 2 * length list
 
--- how many rotations there is room for: half as many as there are places
-abbrev pub most : ℕ
-most = largest * largest / 2
+-- so it has for those of a book whose n is not too large
+abbrev pub LongList : List ℕ → List ℕ → Type 0
+LongList b list = people b ≤ largest → ListRoom (people b) list
 
--- lists for the rotations found, of which none is
-pub record EmptyNotes (waits pairs starts left : List ℕ) : Type 0 where
-  pub cells : length waits ≡ largest * largest
+-- Lists for the rotations of n men as they are found, of which none is: there are at most half as many as places
+pub record EmptyNotes (n : ℕ) (waits pairs starts left : List ℕ) : Type 0 where
+  pub cells : n * n ≤ length waits
   pub blank : (v : ℕ) → vec waits v ≡ 0
-  pub room : length pairs ≡ listRoom
-  pub many : length starts ≡ most
-  pub lefts : length left ≡ most
+  pub room : ListRoom n pairs
+  pub pairs-fit : length pairs < 65536
+  pub many : n * n ≤ 2 * length starts
+  pub few : length starts < 65535
+  pub lefts : length left ≡ length starts
 
--- the list holds all rotations of a record's market
-pub record NumberingOf (r : Record) (numbers : List ℕ) (s : Extent) : Type 0 where
-  pub numbered : Numbered (marketIn r) numbers (s .count) (s .end)
-  pub long : length numbers ≡ listRoom
+-- The list holds all rotations of a record's market
+abbrev pub NumberingOf : Record → List ℕ → Extent → Type 0
+NumberingOf r numbers s = Numbered (marketIn r) numbers (s .count) (s .end)

@@ -3,4 +3,5 @@ mod numbering;
 
 pub use numbering::Extent;
 pub use numbering::ROOM;
+pub use numbering::SMALL_ROOM;
 pub use numbering::number_all;

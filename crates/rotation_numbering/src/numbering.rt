@@ -6,7 +6,6 @@ use matchings::Places;
 use rotation_finding::find_all;
 use rotation_ordering::order;
 ghost use mathlib.Core.Path.{_≡_};
-ghost use lib.ListN.{length};
 ghost use Rattle.laws.specs.Moment.{now₁};
 ghost use Rattle.laws.specs.Values.{vec};
 ghost use Rattle.format.specs.Record.{Record, lent};
@@ -14,7 +13,7 @@ ghost use Rattle.instances.specs.Usable.{Usable, marketIn};
 ghost use Rattle.stable_theory.specs.Least.Optimal.{proposer-optimal};
 ghost use Rattle.extremes.specs.Places.{PlacesIn};
 ghost use Rattle.rotation_finding.specs.Recording.{FoundAll};
-ghost use Rattle.rotation_numbering.specs.Numbering.{listRoom, EmptyNotes, NumberingOf};
+ghost use Rattle.rotation_numbering.specs.Numbering.{ListRoom, EmptyNotes, NumberingOf};
 
 // How many rotations there are, and where their list ends.
 pub struct Extent {
@@ -23,11 +22,15 @@ pub struct Extent {
 }
 
 // Two and a half numbers for each place of the largest book: a pair takes two, a rotation one more, each moves at least
-// two men, and no man goes back.
+// two men, and no man goes back. The same for small tables.
 pub const ROOM: usize = 5 * Instance::LARGEST * Instance::LARGEST / 2;
+
+pub const SMALL_ROOM: usize = 5 * Instance::SMALL * Instance::SMALL / 2;
 
 // As many rotations as there can be: each moves two men on by one place at least.
 const MOST: usize = Instance::LARGEST * Instance::LARGEST / 2;
+
+const SMALL_MOST: usize = Instance::SMALL * Instance::SMALL / 2;
 
 // Four numbers for each man on a path.
 const FRAMES: usize = 4 * Instance::LARGEST;
@@ -49,7 +52,7 @@ fn gather<'a>(
     ghost { Record }
     requires { λ R. ⌜ lent n mlists mranks wlists wranks ≡ R ⌝ }
     requires { λ R. ⌜ Usable R × PlacesIn n (marketIn R) (proposer-optimal (marketIn R)) best ⌝ }
-    requires { λ _. ⌜ EmptyNotes (now waits) (now pairs) (now starts) (now left) ⌝ }
+    requires { λ _. ⌜ EmptyNotes n (now waits) (now pairs) (now starts) (now left) ⌝ }
     ensures { λ R r. ⌜ FoundAll (marketIn R) (vec (best .women)) (now₁ pairs) (now₁ starts) (now₁ left) (now₁ waits) r ⌝ }
 {
     let worst = woman_optimal_places(n, mlists, mranks, wlists);
@@ -91,15 +94,67 @@ pub fn number_all<'a>(
     ghost { Record }
     requires { λ R. ⌜ lent n mlists mranks wlists wranks ≡ R ⌝ }
     requires { λ R. ⌜ Usable R ⌝ }
-    requires { λ _. ⌜ length (now list) ≡ listRoom ⌝ }
+    requires { λ _. ⌜ ListRoom n (now list) ⌝ }
     ensures { λ R r. ⌜ NumberingOf R (now₁ list) r ⌝ }
 {
-    let best = man_optimal_places(n, mlists, wlists, wranks);
-    let mut t = best.women;
+    if n <= Instance::SMALL {
+        let mut waits = [0u16; Instance::SMALL_RANKS];
+        let mut pairs = [0u16; SMALL_ROOM];
+        let mut starts = [0u16; SMALL_MOST];
+        let mut left = [0u16; SMALL_MOST];
+        return number_with(
+            n,
+            mlists,
+            mranks,
+            wlists,
+            wranks,
+            &mut waits,
+            &mut pairs,
+            &mut starts,
+            &mut left,
+            list,
+        );
+    }
     let mut waits = [0u16; Instance::RANKS];
     let mut pairs = [0u16; ROOM];
     let mut starts = [0u16; MOST];
     let mut left = [0u16; MOST];
+    number_with(
+        n,
+        mlists,
+        mranks,
+        wlists,
+        wranks,
+        &mut waits,
+        &mut pairs,
+        &mut starts,
+        &mut left,
+        list,
+    )
+}
+
+// The same with lent lists for the rotations as they are found.
+fn number_with<'a>(
+    n: usize,
+    mlists: &'a [u16],
+    mranks: &'a [u16],
+    wlists: &'a [u16],
+    wranks: &'a [u16],
+    waits: &mut [u16],
+    pairs: &mut [u16],
+    starts: &mut [u16],
+    left: &mut [u16],
+    list: &mut [u16],
+) -> Extent
+    ghost { Record }
+    requires { λ R. ⌜ lent n mlists mranks wlists wranks ≡ R ⌝ }
+    requires { λ R. ⌜ Usable R ⌝ }
+    requires { λ _. ⌜ EmptyNotes n (now waits) (now pairs) (now starts) (now left) ⌝ }
+    requires { λ _. ⌜ ListRoom n (now list) ⌝ }
+    ensures { λ R r. ⌜ NumberingOf R (now₁ list) r ⌝ }
+{
+    let best = man_optimal_places(n, mlists, wlists, wranks);
+    let mut t = best.women;
     let count = gather(
         n,
         mlists,
@@ -107,10 +162,10 @@ pub fn number_all<'a>(
         wlists,
         wranks,
         best,
-        &mut waits[..],
-        &mut pairs[..],
-        &mut starts[..],
-        &mut left[..],
+        waits,
+        pairs,
+        starts,
+        left,
     );
     let mut ready = [0u16; Instance::LARGEST];
     let end = order(
@@ -118,8 +173,8 @@ pub fn number_all<'a>(
         mlists,
         wlists,
         wranks,
-        &waits,
-        &pairs,
+        waits,
+        pairs,
         &starts[..count],
         &mut t[..n],
         &mut left[..count],

@@ -1,4 +1,5 @@
 // The matching of a closed set of rotations. A set is one mark, 0 or 1, a rotation.
+use book::is_small;
 use book::refuse;
 use closed_subsets::bad_marks;
 use closed_subsets::closes;
@@ -9,11 +10,14 @@ use format::Checked;
 use format::Instance;
 use record::load;
 use rotation_numbering::ROOM;
+use rotation_numbering::SMALL_ROOM;
 use rotation_numbering::number_all;
 ghost use mathlib.Core.Path.{_≡_};
 ghost use lib.ListN.{length};
 ghost use Rattle.laws.specs.Moment.{now₀, now₁};
 ghost use Rattle.format.specs.Verdict.{verdictOf};
+ghost use Rattle.format.specs.Record.{LongTables};
+ghost use Rattle.rotation_numbering.specs.Numbering.{LongList};
 ghost use Rattle.rotations.specs.Sets.{checkSet, setMatchingBuffer};
 
 // Writes the matching of a closed set to the front of `out`, or says which rule stands against it. A refusal leaves
@@ -22,31 +26,77 @@ pub fn set_to_matching(book: &[u8], set: &[u8], out: &mut [u8]) -> Checked
     ensures verdict { λ r. ⌜ verdictOf r ≡ checkSet (now₀ book) (now₀ set) (length (now₀ out)) ⌝ }
     ensures bytes { λ _. ⌜ now₁ out ≡ setMatchingBuffer (now₀ book) (now₀ set) (now₀ out) ⌝ }
 {
+    if is_small(book) {
+        let mut mlists = [0u16; Instance::SMALL_LISTS];
+        let mut mranks = [0u16; Instance::SMALL_RANKS];
+        let mut wlists = [0u16; Instance::SMALL_LISTS];
+        let mut wranks = [0u16; Instance::SMALL_RANKS];
+        let mut list = [0u16; SMALL_ROOM];
+        return set_with(
+            book,
+            &mut mlists,
+            &mut mranks,
+            &mut wlists,
+            &mut wranks,
+            &mut list,
+            set,
+            out,
+        );
+    }
     let mut mlists = [0u16; Instance::LISTS];
     let mut mranks = [0u16; Instance::RANKS];
     let mut wlists = [0u16; Instance::LISTS];
     let mut wranks = [0u16; Instance::RANKS];
-    let instance = load(book, &mut mlists, &mut mranks, &mut wlists, &mut wranks);
+    let mut list = [0u16; ROOM];
+    set_with(
+        book,
+        &mut mlists,
+        &mut mranks,
+        &mut wlists,
+        &mut wranks,
+        &mut list,
+        set,
+        out,
+    )
+}
+
+// The same with lent tables and a list for the rotations.
+fn set_with(
+    book: &[u8],
+    mlists: &mut [u16],
+    mranks: &mut [u16],
+    wlists: &mut [u16],
+    wranks: &mut [u16],
+    list: &mut [u16],
+    set: &[u8],
+    out: &mut [u8],
+) -> Checked
+    requires { ⌜ LongTables (now book) (now mlists) (now mranks) ⌝ }
+    requires { ⌜ LongTables (now book) (now wlists) (now wranks) ⌝ }
+    requires { ⌜ LongList (now book) (now list) ⌝ }
+    ensures verdict { λ r. ⌜ verdictOf r ≡ checkSet (now₀ book) (now₀ set) (length (now₀ out)) ⌝ }
+    ensures bytes { λ _. ⌜ now₁ out ≡ setMatchingBuffer (now₀ book) (now₀ set) (now₀ out) ⌝ }
+{
+    let instance = load(book, mlists, mranks, wlists, wranks);
     let answer = instance.checked;
     let Checked::Fine = answer else {
         return answer;
     };
     let n = instance.n;
-    let mut list = [0u16; ROOM];
-    let extent = number_all(n, &mlists, &mranks, &wlists, &wranks, &mut list[..]);
+    let extent = number_all(n, mlists, mranks, wlists, wranks, list);
     let count = extent.count;
     if bad_marks(set, count) {
         return refuse(15, 0);
     }
-    let places = man_optimal_places(n, &mlists, &wlists, &wranks);
-    let men = set_places(n, &mranks, &wranks, places, &list, set);
-    let closed = closes(n, &mlists, &mranks, &wlists, &wranks, &list, set, men);
+    let places = man_optimal_places(n, mlists, wlists, wranks);
+    let men = set_places(n, mranks, wranks, places, list, set);
+    let closed = closes(n, mlists, mranks, wlists, wranks, list, set, men);
     if !closed {
         return refuse(16, 0);
     }
     if out.len() < n {
         return refuse(14, 0);
     }
-    write_matching(n, &mlists, &men, out);
+    write_matching(n, mlists, &men, out);
     answer
 }

@@ -1,6 +1,7 @@
 // The sheet of what was read, a book and a matching.
 use book::book_end;
 use book::count_after;
+use book::is_small;
 use book::refuse;
 use format::Checked;
 use format::Counted;
@@ -15,7 +16,7 @@ ghost use Prim.Native.Nat.{_≤_};
 ghost use lib.ListN.{length};
 ghost use Rattle.laws.specs.Moment.{now₀, now₁};
 ghost use Rattle.format.specs.Outcome.{countOutcome};
-ghost use Rattle.format.specs.Record.{Record, lent};
+ghost use Rattle.format.specs.Record.{Record, lent, LongTables};
 ghost use Rattle.stability.specs.Judge.{FromBook, EachBook};
 ghost use Rattle.sheets.specs.Longest.{longest};
 ghost use Rattle.sheets.specs.Sheet.{sheetFor, sheetOf};
@@ -43,29 +44,57 @@ fn put_sheet(input: &[u8], text: &mut [u8]) -> usize
     ensures { λ r. ⌜ Put (now₀ text) 0 (sheetOf (now₀ input)) (now₁ text) r ⌝ }
 {
     let end = book_end(input);
+    let book = &input[..end];
+    let matching = &input[end..];
+    if is_small(book) {
+        let mut mlists = [0u16; Instance::SMALL_LISTS];
+        let mut mranks = [0u16; Instance::SMALL_RANKS];
+        let mut wlists = [0u16; Instance::SMALL_LISTS];
+        let mut wranks = [0u16; Instance::SMALL_RANKS];
+        return put_with(
+            book,
+            &mut mlists,
+            &mut mranks,
+            &mut wlists,
+            &mut wranks,
+            matching,
+            text,
+        );
+    }
     let mut mlists = [0u16; Instance::LISTS];
     let mut mranks = [0u16; Instance::RANKS];
     let mut wlists = [0u16; Instance::LISTS];
     let mut wranks = [0u16; Instance::RANKS];
-    let instance = load(
-        &input[..end],
+    put_with(
+        book,
         &mut mlists,
         &mut mranks,
         &mut wlists,
         &mut wranks,
-    );
-    let answer = instance.checked;
-    let n = instance.n;
-    put_judged(
-        answer,
-        n,
-        &mlists,
-        &mranks,
-        &wlists,
-        &wranks,
-        &input[end..],
+        matching,
         text,
     )
+}
+
+// The same with lent tables.
+fn put_with(
+    book: &[u8],
+    mlists: &mut [u16],
+    mranks: &mut [u16],
+    wlists: &mut [u16],
+    wranks: &mut [u16],
+    matching: &[u8],
+    text: &mut [u8],
+) -> usize
+    requires { ⌜ LongTables (now book) (now mlists) (now mranks) ⌝ }
+    requires { ⌜ LongTables (now book) (now wlists) (now wranks) ⌝ }
+    requires { ⌜ longest ≤ length (now text) ⌝ }
+    ensures { λ r. ⌜ Put (now₀ text) 0 (sheetFor (now₀ book) (now₀ matching)) (now₁ text) r ⌝ }
+{
+    let instance = load(book, mlists, mranks, wlists, wranks);
+    let answer = instance.checked;
+    let n = instance.n;
+    put_judged(answer, n, mlists, mranks, wlists, wranks, matching, text)
 }
 
 // The same from what is made of the book: for each book of which that is made. It goes on to repairs only where the

@@ -2,6 +2,7 @@
 use crate::blocking::check_stable;
 use crate::names::check_names;
 use crate::placing::places_of;
+use book::is_small;
 use format::Checked;
 use format::Instance;
 use matchings::Judged;
@@ -10,7 +11,7 @@ use record::load;
 ghost use mathlib.Core.Path.{_≡_};
 ghost use Rattle.laws.specs.Moment.{now₀};
 ghost use Rattle.format.specs.Verdict.{verdictOf};
-ghost use Rattle.format.specs.Record.{Record, lent};
+ghost use Rattle.format.specs.Record.{Record, lent, LongTables};
 ghost use Rattle.matchings.specs.Matching.{checkMatching};
 ghost use Rattle.stability.specs.Judge.{FromBook, Judges, Unplaced};
 
@@ -18,13 +19,50 @@ ghost use Rattle.stability.specs.Judge.{FromBook, Judges, Unplaced};
 pub fn check(book: &[u8], matching: &[u8]) -> Checked
     ensures { λ r. ⌜ verdictOf r ≡ checkMatching (now₀ book) (now₀ matching) ⌝ }
 {
+    if is_small(book) {
+        let mut mlists = [0u16; Instance::SMALL_LISTS];
+        let mut mranks = [0u16; Instance::SMALL_RANKS];
+        let mut wlists = [0u16; Instance::SMALL_LISTS];
+        let mut wranks = [0u16; Instance::SMALL_RANKS];
+        return check_with(
+            book,
+            &mut mlists,
+            &mut mranks,
+            &mut wlists,
+            &mut wranks,
+            matching,
+        );
+    }
     let mut mlists = [0u16; Instance::LISTS];
     let mut mranks = [0u16; Instance::RANKS];
     let mut wlists = [0u16; Instance::LISTS];
     let mut wranks = [0u16; Instance::RANKS];
-    let made = load(book, &mut mlists, &mut mranks, &mut wlists, &mut wranks);
+    check_with(
+        book,
+        &mut mlists,
+        &mut mranks,
+        &mut wlists,
+        &mut wranks,
+        matching,
+    )
+}
+
+// The same with lent tables.
+fn check_with(
+    book: &[u8],
+    mlists: &mut [u16],
+    mranks: &mut [u16],
+    wlists: &mut [u16],
+    wranks: &mut [u16],
+    matching: &[u8],
+) -> Checked
+    requires { ⌜ LongTables (now book) (now mlists) (now mranks) ⌝ }
+    requires { ⌜ LongTables (now book) (now wlists) (now wranks) ⌝ }
+    ensures { λ r. ⌜ verdictOf r ≡ checkMatching (now₀ book) (now₀ matching) ⌝ }
+{
+    let made = load(book, mlists, mranks, wlists, wranks);
     let answer = made.checked;
-    let judged = judge(answer, made.n, &mlists, &mranks, &wlists, &wranks, matching);
+    let judged = judge(answer, made.n, mlists, mranks, wlists, wranks, matching);
     judged.checked
 }
 

@@ -3,14 +3,13 @@ use Prim.Native.Nat.{ℕ, _+_, _*_, _≤_, _<_}
 use mathlib.Core.Path.{_≡_, refl, sym, _∙_, ap, subst, subst⁻¹}
 use mathlib.Core.List.{List}
 use native.Mathlib.Omega.{arith}
-use native.Mathlib.Nat.{mul-le-mul}
 use lib.Dec.{eqb}
 use lib.ListN.{length}
 use Rattle.laws.specs.First.{first, first-cong}
 use Rattle.stable_theory.specs.Stable.Market.{Proper, exchanged}
 use Rattle.stable_theory.specs.Stable.Alike.{AlikeSide, Alike, proper-alike}
 use Rattle.tables.specs.Lists.{sideOf, atIn, lenIn, Stored, Agrees, Sound}
-use Rattle.format.specs.Format.{largest, people, listLength}
+use Rattle.format.specs.Format.{people, listLength}
 use Rattle.format.specs.WellFormed.{WellFormed}
 use Rattle.format.specs.Place.{place}
 use Rattle.format.specs.Record.{Record, SideTables, RecordIs}
@@ -19,16 +18,6 @@ use Rattle.matchings.specs.BookMarket.{sideAt, market, market-proper}
 use Rattle.instances.specs.Usable.{byMen, byWomen, marketIn, Usable}
 
 module _ {b lists ranks : List ℕ} {n from : ℕ} (W : WellFormed b) (e : n ≡ people b) (h : from ≤ n) (S : SideTables b n from lists ranks) where
-  -- the tables have room for all rows
-  few : n ≤ largest
-  few = omega (arith, W .few)
-
-  lists-room : n * n + n ≤ length lists
-  lists-room = let k : n + 1 ≤ largest + 1 = omega (arith, few) in omega (arith, S .lists-long, mul-le-mul few k)
-
-  ranks-room : n * n ≤ length ranks
-  ranks-room = omega (arith, S .ranks-long, mul-le-mul few few)
-
   full : {i : ℕ} → i < n → lenIn n n lists i ≡ n
   full u = length-full W e h S u
 
@@ -51,7 +40,7 @@ module _ {b lists ranks : List ℕ} {n from : ℕ} (W : WellFormed b) (e : n ≡
   side-stored : Stored n n lists
   side-stored =
       record {
-        rows = lists-room;
+        rows = S .lists-long;
         short = λ u. omega (arith, full u);
         small = λ {i} {k} u l. list-lt W e h S u (omega (arith, full u));
       }
@@ -85,7 +74,7 @@ module _ {b : List ℕ} {r : Record} (W : WellFormed b) (T : RecordIs b (people 
         proposers = side-stored W (T .number) (omega arith) (numbered .men);
         receivers = side-stored W (T .number) (omega arith) (numbered .women);
         agrees = side-agrees W (T .number) (omega arith) (numbered .women);
-        ranked = ranks-room W (T .number) (omega arith) (numbered .women);
+        ranked = numbered .women .ranks-long;
       }
 
   sound-women : Sound (byWomen r)
@@ -95,7 +84,7 @@ module _ {b : List ℕ} {r : Record} (W : WellFormed b) (T : RecordIs b (people 
         proposers = side-stored W (T .number) (omega arith) (numbered .women);
         receivers = side-stored W (T .number) (omega arith) (numbered .men);
         agrees = side-agrees W (T .number) (omega arith) (numbered .men);
-        ranked = ranks-room W (T .number) (omega arith) (numbered .men);
+        ranked = numbered .men .ranks-long;
       }
 
   -- The record of a well formed book is usable

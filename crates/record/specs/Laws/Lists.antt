@@ -16,12 +16,13 @@ stores-end {at} {m} {k} {f} {g} {s} {t} S h u = let e : m ≡ k = omega arith in
 
 -- the entries and then the lengths are stored
 pub lists-filled :
-    {n : ℕ} {l s t lists : List ℕ} → Block n l → Stores 0 (length l) (λ j. j) (vec l) s t → Stores (n * n) n (λ i. i) (λ i. n) t lists
+    {n : ℕ} {l s t lists : List ℕ} → Block n l → n * n + n ≤ length s → Stores 0 (length l) (λ j. j) (vec l) s t → Stores (n * n) n (λ i. i) (λ i. n) t lists
     → ListsFilled n l lists
-lists-filled {n} B E L =
+lists-filled {n} B h E L =
     record {
       entries = λ {i} {j} u v.
           let k = cell-lt u v in
           L .kept (i * n + j) (λ x w e. omega arith) ∙ front-stored E (omega (arith, B .long));
       lengths = λ u. L .stored u;
+      room = omega (arith, h, E .long, L .long);
     }

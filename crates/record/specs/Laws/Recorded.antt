@@ -12,25 +12,21 @@ use Rattle.format.specs.Verdict.{Verdict, fine, refused, verdictOf}
 use Rattle.format.specs.Format.{people, entry}
 use Rattle.format.specs.Check.{checkBook}
 use Rattle.format.specs.WellFormed.{WellFormed, fine-well-formed}
-use Rattle.format.specs.Record.{SideTables, numberIf, recordOf, RecordIs, Recorded, LongTables}
+use Rattle.format.specs.Record.{SideTables, numberIf, recordOf, RecordIs, Recorded}
 use Rattle.format.specs.Frame.{RightEntries, ListsFrom}
 use Rattle.format.specs.Laws.Frame.{frame-formed}
 use Rattle.record.specs.Filling.{SideFilled}
 use Rattle.record.specs.Laws.Sides.{side-names, side-tables}
 
--- tables that are filled are as long as before
-pub filled-long : {n : ℕ} {l lists ranks : List ℕ} {full : Bool} → SideFilled n l lists ranks full → LongTables lists ranks
-filled-long S = record { lists-long = S .lists-long; ranks-long = S .ranks-long }
-
 -- on a refusal n is 0, and the tables may hold anything
-none : {n : ℕ} {lists ranks : List ℕ} (b : List ℕ) (from : ℕ) → LongTables lists ranks → n ≡ 0 → SideTables b n from lists ranks
-none b from T e =
+none : {n : ℕ} (b : List ℕ) (from : ℕ) (lists ranks : List ℕ) → n ≡ 0 → SideTables b n from lists ranks
+none b from lists ranks e =
     record {
       entries = λ u v. absurd (omega arith);
       lengths = λ u. absurd (omega arith);
       places = λ u v. absurd (omega arith);
-      lists-long = T .lists-long;
-      ranks-long = T .ranks-long;
+      lists-long = rw e (omega arith);
+      ranks-long = rw e (omega arith);
     }
 
 number-none : (v : Verdict) (n : ℕ) → (v ≡ fine → ⊥) → numberIf v n ≡ 0
@@ -38,13 +34,13 @@ number-none fine n h = absurd (h refl)
 number-none (refused number place second) n h = refl
 
 pub recorded-refused :
-    {b mlists mranks wlists wranks : List ℕ} {i : Instance} → LongTables mlists mranks → LongTables wlists wranks → verdictOf (i .checked) ≡ checkBook b → i .n ≡ 0
+    {b mlists mranks wlists wranks : List ℕ} {i : Instance} → verdictOf (i .checked) ≡ checkBook b → i .n ≡ 0
     → (checkBook b ≡ fine → ⊥) → Recorded b i (recordOf (i .n) mlists mranks wlists wranks)
-recorded-refused {b} M W e q h =
+recorded-refused {b} {mlists} {mranks} {wlists} {wranks} e q h =
     let z = number-none (checkBook b) (people b) h in
     record {
       checked = e;
-      tables = record { number = q ∙ sym z; men = none b 0 M z; women = none b _ W z };
+      tables = record { number = q ∙ sym z; men = none b 0 mlists mranks z; women = none b _ wlists wranks z };
       number = refl;
     }
 

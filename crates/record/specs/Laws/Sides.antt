@@ -1,7 +1,7 @@
 -- The tables of a side, filled from its lists: they are the side's where each list names everybody, and otherwise the
 -- book is refused. Assumes nothing.
 use Prim.Native.Nat.{ℕ, _+_, _*_, _≤_, _<_}
-use mathlib.Core.Path.{_≡_, sym, _∙_, ap}
+use mathlib.Core.Path.{_≡_, sym, _∙_, ap, subst⁻¹}
 use mathlib.Core.Bool.{Bool, true, false}
 use mathlib.Core.List.{List}
 use native.Mathlib.Omega.{arith}
@@ -14,11 +14,11 @@ use Rattle.laws.specs.Onto.{Into, into-cong}
 use Rattle.laws.specs.Table.{cell, cell-lt, in-rows}
 use Rattle.laws.specs.Values.{vec}
 use Rattle.format.specs.Verdict.{fine}
-use Rattle.format.specs.Format.{people, entry}
+use Rattle.format.specs.Format.{largest, people, entry}
 use Rattle.format.specs.Check.{checkBook}
 use Rattle.format.specs.WellFormed.{WellFormed}
 use Rattle.format.specs.Place.{place}
-use Rattle.format.specs.Record.{unranked, SideTables}
+use Rattle.format.specs.Record.{unranked, SideTables, LongTables}
 use Rattle.format.specs.Frame.{RightEntries, ListsFrom}
 use Rattle.format.specs.Laws.Frame.{fine-names}
 use Rattle.format.specs.Laws.Sides.{side-list}
@@ -29,6 +29,13 @@ use Rattle.record.specs.Laws.Ranks.{place-lt, ranked-names, names-ranked
 pub rows-start : {n : ℕ} {l ranks : List ℕ} → n * n ≤ length ranks → ((p : ℕ) → p < n * n → vec ranks p ≡ unranked) → RankRows n l 0 ranks
 rows-start {n} h e =
     record { done = λ u. absurd (omega arith); blank = λ {i} {v} z u w. e (i * n + v) (cell-lt u w); room = h }
+
+-- tables that are lent for a book have room for its lists and their ranks
+pub side-room : {b lists ranks : List ℕ} {n : ℕ} → RightEntries b n → LongTables b lists ranks → (n * n + n ≤ length lists) × (n * n ≤ length ranks)
+side-room {b} {lists} {ranks} E T =
+    let q = E .frame .opened .number in
+    let f : people b ≤ largest = rw (← q) (E .frame .opened .few) in
+    subst⁻¹ (λ (k : ℕ). (k * k + k ≤ length lists) × (k * k ≤ length ranks)) q (T .lists-long f, T .ranks-long f)
 
 module _ {b l : List ℕ} {n from : ℕ} (E : RightEntries b n) (h : from ≤ n) (L : ListsFrom b n from n l) where
   -- the bytes of the lists are n lists with entries below n
@@ -60,8 +67,8 @@ module _ {b l : List ℕ} {n from : ℕ} (E : RightEntries b n) (h : from ≤ n)
               let R = S .in-ranks .rows .done u in
               let k = place-lt R (side-block .few) v (whole e u v) in
               sym (side-list W q h u .place-back k) ∙ ap (place b (from + i)) (sym (L .entries u k) ∙ R .stands v k);
-          lists-long = S .lists-long;
-          ranks-long = S .ranks-long;
+          lists-long = S .in-lists .room;
+          ranks-long = S .in-ranks .rows .room;
         }
 
     -- a cell that is left is that of somebody whom the list does not name

@@ -4,7 +4,7 @@ use mathlib.Core.Path.{_≡_, sym, _∙_}
 use mathlib.Core.List.{List}
 use native.Mathlib.Omega.{arith}
 use native.Mathlib.Nat.{mul-le-mul}
-use lib.ListN.{length, take, length-replicate}
+use lib.ListN.{length, take}
 use lib.Seq.{getD-take, length-take-le}
 use Rattle.tables.specs.Lists.{Sized}
 use Rattle.format.specs.Record.{Record, RecordIs}
@@ -12,7 +12,6 @@ use Rattle.instances.specs.Usable.{Usable, marketIn}
 use Rattle.instances.specs.Laws.BookTables.{usable, usable-alike}
 use Rattle.extremes.specs.Places.{PlacesIn}
 use Rattle.laws.specs.Values.{vec}
-use Rattle.laws.specs.Table.{zeros-read}
 use Rattle.laws.specs.Padded.{zeros, zeros-front, zeros-part}
 use Rattle.format.specs.Format.{largest, people}
 use Rattle.format.specs.WellFormed.{WellFormed}
@@ -32,26 +31,11 @@ use Rattle.rotation_finding.specs.Searching.{WalkSized, SearchStart}
 use Rattle.rotation_waits.specs.Laws.Left.{left-same}
 use Rattle.rotation_ordering.specs.Ordering.{Unwritten, Numbered}
 use Rattle.rotation_elimination.specs.Laws.Written.{lists-same}
-use Rattle.rotation_numbering.specs.Numbering.{listRoom, most, EmptyNotes, NumberingOf}
-
--- two and a half numbers for each place
-run-room : {r : Record} → Usable r → 5 * (r .n * r .n) ≤ 2 * listRoom
-run-room U = omega (arith, mul-le-mul (U .few) (U .few))
+use Rattle.rotation_numbering.specs.Numbering.{ListRoom, EmptyNotes, NumberingOf}
 
 -- four zeros for each man
 pub frames-front : {r : Record} → Usable r → length (take (r .n * 4) (zeros (4 * largest))) ≡ r .n * 4
 frames-front U = zeros-front {m = 4 * largest} (omega (arith, U .few))
-
--- lists of zeros for the rotations found
-pub empty-notes : EmptyNotes (zeros (largest * largest)) (zeros listRoom) (zeros most) (zeros most)
-empty-notes =
-    record {
-      cells = length-replicate {A = ℕ} (largest * largest) 0;
-      blank = λ v. zeros-read (largest * largest) v;
-      room = length-replicate {A = ℕ} listRoom 0;
-      many = length-replicate {A = ℕ} most 0;
-      lefts = length-replicate {A = ℕ} most 0;
-    }
 
 module _ {r : Record} (U : Usable r) {s : Places} (P : PlacesIn (r .n) (marketIn r) (proposer-optimal (marketIn r)) s) where
   -- the first n places are those of the record's persons
@@ -98,19 +82,19 @@ module _ {r : Record} (U : Usable r) {s : Places} (P : PlacesIn (r .n) (marketIn
         path = frames-front U;
       }
 
-  module _ {waits pairs starts left : List ℕ} (E : EmptyNotes waits pairs starts left) where
+  module _ {waits pairs starts left : List ℕ} (E : EmptyNotes (r .n) waits pairs starts left) where
     pub notes-room : Recordable (r .n) (s .women) waits pairs starts left
     notes-room =
         let m = mul-le-mul (U .few) (U .few) in
         record {
           places = omega (arith, P .women-long, U .few);
           short = women-short;
-          cells = omega (arith, E .cells);
+          cells = E .cells;
           small = omega (arith, U .few);
           few = omega arith;
-          pairs-fit = omega (arith, E .room);
-          begins = omega (arith, E .many);
-          lefts = omega (arith, E .many, E .lefts);
+          pairs-fit = E .pairs-fit;
+          begins = E .many;
+          lefts = E .lefts;
         }
 
     pub search-start : {worst : Places} → PlacesIn (r .n) (marketIn r) (receiver-optimal (marketIn r)) worst →
@@ -123,12 +107,12 @@ module _ {r : Record} (U : Usable r) {s : Places} (P : PlacesIn (r .n) (marketIn
           last = Q .same;
           reaches = omega (arith, Q .men-long, U .few);
           blank = λ v h. E .blank v;
-          room = omega (arith, run-room U, E .room);
+          room = E .room;
         }
 
   -- what the numbering asks
   pub order-start :
-      {waits pairs starts left list : List ℕ} {c : ℕ} → length starts ≡ most → length left ≡ most → length list ≡ listRoom →
+      {waits pairs starts left list : List ℕ} {c : ℕ} → length starts < 65535 → length left ≡ length starts → ListRoom (r .n) list →
       FoundAll (marketIn r) (vec (s .women)) pairs starts left waits c →
       Unwritten (marketIn r) (take c starts) waits (take (r .n) (s .women)) (take c left) (take (r .n) (zeros largest)) list
   order-start {waits} {starts = starts} {left = left} {c = c} b d e F =
@@ -147,7 +131,7 @@ module _ {r : Record} (U : Usable r) {s : Places} (P : PlacesIn (r .n) (marketIn
         few = omega (arith, F .within);
         men = zeros-front (U .few);
         empty = λ m. zeros-part largest n m;
-        room = omega (arith, run-room U);
+        room = e;
       }
 
 -- the number of rotations, told otherwise
@@ -164,4 +148,4 @@ module _ {b : List ℕ} {r : Record} (W : WellFormed b) (T : RecordIs b (people 
   numbering-book {numbers} {s} N =
       let a = rotations-alike (usable W T .men .proper) (market-proper W) (usable-alike W T) in
       let k = total-book in
-      record { count = N .numbered .count ∙ k; lists = rw (← k) (lists-same (a .1) (N .numbered .lists)) }
+      record { count = N .count ∙ k; lists = rw (← k) (lists-same (a .1) (N .lists)) }

@@ -1,13 +1,23 @@
--- `grade` meets its contract: the answer for the book that was loaded. Assumes nothing.
+-- `grade` meets its contract: small tables are lent where they do, and otherwise large ones. Assumes nothing.
+use mathlib.Core.Path.{sym, _∙_}
 use borrow.Author.Needs.{needs}
+use Rattle.format.specs.Laws.LongTables.{small-long, large-long}
 use Rattle.grade.proofs.robustness.grade.Statement.{statement}
 use Rattle.grade.proofs.robustness.grade.Tie as tie
 
-returns : tie.Need-returns
-returns c =
-    let l : tie.After-load = search in
-    let g : tie.After-grade-in = search in
-    g .grade-in .ensures _ (l .load .ensures)
+grade-with-requires : tie.Need-grade-with-requires
+grade-with-requires c κs =
+    let s : tie.Start = search in
+    let i : tie.After-is-small = search in
+    let t : tie.Then1 = search in
+    let T = small-long (s .args .book .now) (sym (i .is-small .ensures) ∙ t .if1 .taken) in
+    (T, T)
+
+grade-with-requires-2 : tie.Need-grade-with-requires-2
+grade-with-requires-2 c κs =
+    let s : tie.Start = search in
+    let T = large-long (s .args .book .now) in
+    (T, T)
 
 pub grade-spec : {M : Type 1} → statement M
 grade-spec =
@@ -18,5 +28,11 @@ grade-spec =
     (λ c. search needs)
     (λ c. search needs)
     (λ c. search needs)
-    (λ c κs. search needs)
-    returns)
+    grade-with-requires
+    (λ c. search needs)
+    (λ c. search needs)
+    (λ c. search needs)
+    (λ c. search needs)
+    (λ c. search needs)
+    grade-with-requires-2
+    (λ c. search needs))

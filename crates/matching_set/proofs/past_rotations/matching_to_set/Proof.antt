@@ -1,102 +1,24 @@
--- `matching_to_set` meets its contract: rule 14 after the matching's, and then the set of the matching. `judged` is
--- what the check answers for the book, `passed` says that nothing is refused before rule 14, `count` that the code's
--- number of rotations is the book's. Assumes nothing.
-use Prim.Native.Nat.{ℕ}
-use mathlib.Core.Path.{_≡_, sym, _∙_, ap}
-use native.Mathlib.Omega.{arith}
-use lib.ListN.{length, length-replicate}
+-- `matching_to_set` meets its contract: small tables are lent where they do, and otherwise large ones. Assumes nothing.
+use mathlib.Core.Path.{sym, _∙_}
 use borrow.Author.Needs.{needs}
-use Rattle.format.specs.Outcome.{after}
-use Rattle.format.specs.Laws.Outcome.{room-refused, room-short, room-fits}
-use Rattle.format.specs.Record.{Record, recordOf}
-use Rattle.format.specs.Verdict.{Verdict, fine, verdictOf}
-use Rattle.matchings.specs.Matching.{checkMatching}
-use Rattle.stability.specs.Laws.Judged.{BookJudged, book-judged}
-use Rattle.rotations.specs.RotationList.{rotationCount}
-use Rattle.rotation_numbering.specs.Numbering.{listRoom}
-use Rattle.instances.specs.Laws.Read.{read-usable}
-use Rattle.rotation_list.specs.Laws.Replies.{reply-refused, reply-fine}
-use Rattle.precedence.specs.Laws.BookOrder.{book-readable}
-use Rattle.matching_set.specs.Laws.MatchingSets.{judged-read, judged-room, judged-count, judged-set}
-use Rattle.rotations.specs.Sets.{matchingSet}
+use Rattle.format.specs.Laws.LongTables.{small-long, large-long}
+use Rattle.rotation_numbering.specs.Laws.Room.{small-list, large-list}
 use Rattle.matching_set.proofs.past_rotations.matching_to_set.Statement.{statement}
 use Rattle.matching_set.proofs.past_rotations.matching_to_set.Tie as tie
 
--- from each place to the one before it that the proof names
-abbrev start : tie.After-load → tie.Start
-start c = search
+matching-with-requires : tie.Need-matching-with-requires
+matching-with-requires c κs =
+    let s : tie.Start = search in
+    let i : tie.After-is-small = search in
+    let t : tie.Then1 = search in
+    let T = small-long (s .args .book .now) (sym (i .is-small .ensures) ∙ t .if1 .taken) in
+    (T, (T, small-list (s .args .book .now) (sym (i .is-small .ensures) ∙ t .if1 .taken)))
 
-abbrev loaded : tie.After-judge → tie.After-load
-loaded c = search
-
-abbrev stable : tie.After-enum-told → tie.After-judge
-stable c = search
-
-abbrev told : tie.After-number-all → tie.After-enum-told
-told c = search
-
--- the record that was made
-abbrev made : tie.After-load → Record
-made c =
-    let l = c .load .last .1 in
-    recordOf (c .load .result .n) (l .0) (l .1 .0) (l .1 .1 .0) (l .1 .1 .1 .0)
-
-judged :
-    (c : tie.After-judge) →
-    let l = loaded c in
-    let a = start l .args in
-    BookJudged (a .book .now) (a .matching .now) (made l) (c .judge .result)
-judged c = book-judged (loaded c .load .ensures) (c .judge .ensures)
-
-passed : (c : tie.After-enum-told) → let a = start (loaded (stable c)) .args in checkMatching (a .book .now) (a .matching .now) ≡ fine
-passed c = sym (judged (stable c) .judged .checked) ∙ ap verdictOf (c .enum-told .given .1)
-
-count : (c : tie.After-number-all) → c .number-all .result .count ≡ rotationCount (start (loaded (stable (told c))) .args .book .now)
-count c = judged-count (judged (stable (told c))) (passed (told c)) (c .number-all .ensures)
-
-returns : tie.Need-returns
-returns c =
-    let d : tie.After-judge = search in
-    let s = start (loaded d) .args in
-    let b = s .book .now in
-    let m = s .matching .now in
-    let o = s .out .now in
-    let e = ap verdictOf (c .before .enum-told2 .given .1) in
-    reply-refused (room-refused (checkMatching b m) (rotationCount b) (length o) (sym (judged d .judged .checked) ∙ e)) (rotationCount b) (rotationCount b) (matchingSet b m) o (c .count-after .ensures ∙ ap (λ (v : Verdict). after v 0) e)
-
-number-all-requires : tie.Need-number-all-requires
-number-all-requires c κs =
-    let t : tie.After-enum-told = search in
-    (read-usable (judged-read (judged (stable t)) (passed t)), length-replicate {A = ℕ} listRoom 0)
-
-returns-2 : tie.Need-returns-2
-returns-2 c =
-    let n : tie.After-number-all = search in
-    let s = start (loaded (stable (told n))) .args in
-    let b = s .book .now in
-    let m = s .matching .now in
-    let o = s .out .now in
-    reply-refused (room-short (checkMatching b m) (rotationCount b) (length o) (passed (told n)) (omega (arith, count n, c .before .before .if1 .taken))) (rotationCount b) (rotationCount b) (matchingSet b m) o (c .count-after2 .ensures ∙ ap (λ (v : Verdict). after v 0) (c .before .refuse .ensures))
-
-write-set-requires : tie.Need-write-set-requires
-write-set-requires c κs =
-    let e : tie.Else1 = search in
-    let n : tie.After-number-all = search in
-    let J = judged (stable (told n)) in
-    let h = judged-room J (passed (told n)) in
-    (rw (count n) (book-readable (judged-read J (passed (told n))) (n .number-all .ensures)), (h .0, h .1, omega (arith, e .if1 .left)))
-
-returns-3 : tie.Need-returns-3
-returns-3 c =
-    let w : tie.After-write-set = search in
-    let e : tie.Else1 = search in
-    let n : tie.After-number-all = search in
-    let f = passed (told n) in
-    let s = start (loaded (stable (told n))) .args in
-    let b = s .book .now in
-    let m = s .matching .now in
-    let o = s .out .now in
-    reply-fine (room-fits (checkMatching b m) (rotationCount b) (length o) f (omega (arith, count n, e .if1 .left))) (count n) (rotationCount b) (matchingSet b m) o _ (judged-set (judged (stable (told n))) f (n .number-all .ensures) o _ (w .write-set .ensures))
+matching-with-requires-2 : tie.Need-matching-with-requires-2
+matching-with-requires-2 c κs =
+    let s : tie.Start = search in
+    let T = large-long (s .args .book .now) in
+    (T, (T, large-list (s .args .book .now)))
 
 pub matching-to-set-spec : {M : Type 1} → statement M
 matching-to-set-spec =
@@ -107,22 +29,15 @@ matching-to-set-spec =
     (λ c. search needs)
     (λ c. search needs)
     (λ c. search needs)
-    (λ c κs. let l : tie.After-load = search in record { book = _; recorded = l .load .ensures })
+    (λ c. search needs)
+    matching-with-requires
     (λ c. search needs)
     (λ c. search needs)
-    (λ c κs. search needs)
-    returns
-    (λ c. let t : tie.After-enum-told = search in sym (judged (stable t) .tables .men .lists-long))
-    (λ c. let t : tie.After-enum-told = search in sym (judged (stable t) .tables .men .ranks-long))
-    (λ c. let t : tie.After-enum-told = search in sym (judged (stable t) .tables .women .lists-long))
-    (λ c. let t : tie.After-enum-told = search in sym (judged (stable t) .tables .women .ranks-long))
     (λ c. search needs)
-    number-all-requires
-    (λ c κs. search needs)
-    (λ c κs. search needs)
-    returns-2
-    (λ c. let n : tie.After-number-all = search in sym (judged (stable (told n)) .tables .men .ranks-long))
-    (λ c. let n : tie.After-number-all = search in sym (n .number-all .ensures .long))
-    write-set-requires
     (λ c. search needs)
-    returns-3)
+    (λ c. search needs)
+    (λ c. search needs)
+    (λ c. search needs)
+    matching-with-requires-2
+    (λ c. search needs)
+    (λ c. search needs))

@@ -6,8 +6,8 @@ use borrow.Author.Needs.{needs}
 use borrow.Author.Tests.{not-true, not-false}
 use Rattle.format.specs.declared.framed.Framed.{Framed}
 use Rattle.format.specs.Frame.{FramedBook, RightEntries}
-use Rattle.record.specs.Laws.Sides.{side-block, side-refused}
-use Rattle.record.specs.Laws.Recorded.{filled-long, recorded-refused, recorded-fine}
+use Rattle.record.specs.Laws.Sides.{side-room, side-block, side-refused}
+use Rattle.record.specs.Laws.Recorded.{recorded-refused, recorded-fine}
 use Rattle.record.proofs.tables.load.Statement.{statement}
 use Rattle.record.proofs.tables.load.Tie as tie
 
@@ -35,7 +35,7 @@ returns c =
     let f : tie.After-framed = search in
     let t : tie.After-enum-told = search in
     let s = start f in
-    recorded-refused (s .pre .0) (s .pre .1) (c .without-tables .ensures .0) (c .without-tables .ensures .1)
+    recorded-refused (c .without-tables .ensures .0) (c .without-tables .ensures .1)
     (subst (λ (r : Framed). FramedBook (s .args .book .now) r) (t .enum-told .given .1) (f .framed .ensures))
 
 -- the frame is right, and the entries are below n
@@ -50,14 +50,16 @@ fill-side-requires : tie.Need-fill-side-requires
 fill-side-requires c κs =
     let m : tie.After-lists-from = search in
     let s : tie.Start = search in
-    (side-block (right (people m)) (omega arith) (m .lists-from .ensures), s .pre .0)
+    let E = right (people m) in
+    let r = side-room E (s .pre .0) in
+    (side-block E (omega arith) (m .lists-from .ensures), r .0, r .1)
 
 returns-2 : tie.Need-returns-2
 returns-2 c =
     let d : tie.After-fill-side = search in
     let m = mens d in
     let s : tie.Start = search in
-    recorded-refused (filled-long (d .fill-side .ensures)) (s .pre .1) (c .without-tables2 .ensures .0) (c .without-tables2 .ensures .1)
+    recorded-refused (c .without-tables2 .ensures .0) (c .without-tables2 .ensures .1)
     (side-refused (right (people m)) (omega arith) (m .lists-from .ensures) (d .fill-side .ensures) (not-true _ (c .before .if1 .taken)))
 
 lists-from-requires-2 : tie.Need-lists-from-requires-2
@@ -66,14 +68,15 @@ lists-from-requires-2 c κs = let k : tie.After-known-told = search in (right k 
 fill-side-requires-2 : tie.Need-fill-side-requires-2
 fill-side-requires-2 c κs =
     let w : tie.After-lists-from2 = search in
-    let s : tie.Start = search in
-    (side-block (right (people (mens (filled w)))) (omega arith) (w .lists-from2 .ensures), s .pre .1)
+    let k = people (mens (filled w)) in
+    let r = side-room (right k) (start (framed k) .pre .1) in
+    (side-block (right k) (omega arith) (w .lists-from2 .ensures), r .0, r .1)
 
 returns-3 : tie.Need-returns-3
 returns-3 c =
     let d : tie.After-fill-side2 = search in
     let w = womens d in
-    recorded-refused (filled-long (filled w .fill-side .ensures)) (filled-long (d .fill-side2 .ensures)) (c .without-tables3 .ensures .0) (c .without-tables3 .ensures .1)
+    recorded-refused (c .without-tables3 .ensures .0) (c .without-tables3 .ensures .1)
     (side-refused (right (people (mens (filled w)))) (omega arith) (w .lists-from2 .ensures) (d .fill-side2 .ensures) (not-true _ (c .before .if2 .taken)))
 
 returns-4 : tie.Need-returns-4
@@ -96,9 +99,19 @@ load-spec =
     lists-from-requires
     fill-side-requires
     (λ c κs. search needs)
+    (λ c. search needs)
+    (λ c. search needs)
     returns-2
     lists-from-requires-2
     fill-side-requires-2
     (λ c κs. search needs)
+    (λ c. search needs)
+    (λ c. search needs)
+    (λ c. search needs)
+    (λ c. search needs)
     returns-3
+    (λ c. search needs)
+    (λ c. search needs)
+    (λ c. search needs)
+    (λ c. search needs)
     returns-4)

@@ -1,14 +1,23 @@
--- `repair` meets its contract: the answer for the book that was loaded. Assumes nothing.
+-- `repair` meets its contract: small tables are lent where they do, and otherwise large ones. Assumes nothing.
+use mathlib.Core.Path.{sym, _∙_}
 use borrow.Author.Needs.{needs}
+use Rattle.format.specs.Laws.LongTables.{small-long, large-long}
 use Rattle.repair.proofs.pair.repair.Statement.{statement}
 use Rattle.repair.proofs.pair.repair.Tie as tie
 
-returns : tie.Need-returns
-returns c =
-    let l : tie.After-load = search in
-    let r : tie.After-repair-in = search in
-    let A = r .repair-in .ensures _ (l .load .ensures) in
-    (A .reply, (A .bytes, A .places))
+repair-with-requires : tie.Need-repair-with-requires
+repair-with-requires c κs =
+    let s : tie.Start = search in
+    let i : tie.After-is-small = search in
+    let t : tie.Then1 = search in
+    let T = small-long (s .args .book .now) (sym (i .is-small .ensures) ∙ t .if1 .taken) in
+    (T, T)
+
+repair-with-requires-2 : tie.Need-repair-with-requires-2
+repair-with-requires-2 c κs =
+    let s : tie.Start = search in
+    let T = large-long (s .args .book .now) in
+    (T, T)
 
 pub repair-spec : {M : Type 1} → statement M
 repair-spec =
@@ -19,7 +28,15 @@ repair-spec =
     (λ c. search needs)
     (λ c. search needs)
     (λ c. search needs)
-    (λ c κs. search needs)
+    repair-with-requires
     (λ c. search needs)
     (λ c. search needs)
-    returns)
+    (λ c. search needs)
+    (λ c. search needs)
+    (λ c. search needs)
+    (λ c. search needs)
+    (λ c. search needs)
+    repair-with-requires-2
+    (λ c. search needs)
+    (λ c. search needs)
+    (λ c. search needs))

@@ -1,0 +1,46 @@
+-- Lists of zeros are long enough for the rotations of a record and of a book. Assumes nothing.
+use Prim.Native.Nat.{ℕ, _*_, _/_, _≤_, _<_}
+use mathlib.Core.Path.{_≡_, refl, subst⁻¹}
+use mathlib.Core.Bool.{true}
+use mathlib.Core.List.{List}
+use native.Mathlib.Omega.{arith}
+use native.Mathlib.Nat.{mul-le-mul}
+use lib.ListN.{length-replicate}
+use Rattle.laws.specs.Table.{zeros-read}
+use Rattle.laws.specs.Padded.{zeros}
+use Rattle.format.specs.Format.{largest, people}
+use Rattle.format.specs.Record.{Record, small, isSmall}
+use Rattle.format.specs.Laws.LongTables.{small-upto}
+use Rattle.instances.specs.Laws.Read.{Read}
+use Rattle.rotation_numbering.specs.Numbering.{ListRoom, LongList, EmptyNotes}
+
+-- lists of zeros for the rotations found, of c, p and m entries
+pub empty-notes :
+    {n : ℕ} (c p m : ℕ) → n * n ≤ c → 5 * (n * n) ≤ 2 * p → p < 65536 → n * n ≤ 2 * m → m < 65535
+    → EmptyNotes n (zeros c) (zeros p) (zeros m) (zeros m)
+empty-notes c p m h u f v g =
+    let i = length-replicate {A = ℕ} c 0 in
+    let j = length-replicate {A = ℕ} p 0 in
+    let k = length-replicate {A = ℕ} m 0 in
+    record {
+      cells = omega (arith, i);
+      blank = λ w. zeros-read c w;
+      room = omega (arith, j);
+      pairs-fit = omega (arith, j);
+      many = omega (arith, k);
+      few = omega (arith, k);
+      lefts = refl;
+    }
+
+-- a list of zeros is long enough for a book: small tables are lent where they do, and otherwise large ones
+pub small-list : (b : List ℕ) → isSmall (people b) ≡ true → LongList b (zeros (5 * (small * small) / 2))
+small-list b e f =
+    let h = small-upto (people b) e in
+    omega (arith, mul-le-mul h h, length-replicate {A = ℕ} (5 * (small * small) / 2) 0)
+
+pub large-list : (b : List ℕ) → LongList b (zeros (5 * (largest * largest) / 2))
+large-list b f = omega (arith, mul-le-mul f f, length-replicate {A = ℕ} (5 * (largest * largest) / 2) 0)
+
+-- and so for the record of that book
+pub list-room : {b : List ℕ} {r : Record} (list : List ℕ) → Read b r → LongList b list → ListRoom (r .n) list
+list-room list R L = subst⁻¹ (λ (k : ℕ). ListRoom k list) (R .tables .number) (L (R .formed .few))
