@@ -46,11 +46,7 @@ pub fn people_in(book: &[u8]) -> usize
 pub fn is_small(book: &[u8]) -> bool
     ensures { λ r. ⌜ r ≡ isSmall (people (now₀ book)) ⌝ }
 {
-    let n = people_in(book);
-    if n == 0 {
-        return false;
-    }
-    n - 1 < Instance::SMALL
+    people_in(book) <= Instance::SMALL
 }
 
 // Where list k lies.

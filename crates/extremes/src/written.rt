@@ -42,10 +42,10 @@ fn extreme(proposers: Proposers, book: &[u8], out: &mut [u8]) -> Checked
     ensures bytes { λ _. ⌜ now₁ out ≡ extremeBuffer (now₀ book) (extremeMatching proposers (now₀ book)) (now₀ out) ⌝ }
 {
     if is_small(book) {
-        let mut mlists = [0u16; Instance::SMALL_LISTS];
-        let mut mranks = [0u16; Instance::SMALL_RANKS];
-        let mut wlists = [0u16; Instance::SMALL_LISTS];
-        let mut wranks = [0u16; Instance::SMALL_RANKS];
+        let mut mlists = [Instance::VACANT; Instance::SMALL_LISTS];
+        let mut mranks = [Instance::VACANT; Instance::SMALL_RANKS];
+        let mut wlists = [Instance::VACANT; Instance::SMALL_LISTS];
+        let mut wranks = [Instance::VACANT; Instance::SMALL_RANKS];
         return extreme_with(
             proposers,
             book,
@@ -56,10 +56,10 @@ fn extreme(proposers: Proposers, book: &[u8], out: &mut [u8]) -> Checked
             out,
         );
     }
-    let mut mlists = [0u16; Instance::LISTS];
-    let mut mranks = [0u16; Instance::RANKS];
-    let mut wlists = [0u16; Instance::LISTS];
-    let mut wranks = [0u16; Instance::RANKS];
+    let mut mlists = [Instance::VACANT; Instance::LISTS];
+    let mut mranks = [Instance::VACANT; Instance::RANKS];
+    let mut wlists = [Instance::VACANT; Instance::LISTS];
+    let mut wranks = [Instance::VACANT; Instance::RANKS];
     extreme_with(
         proposers,
         book,

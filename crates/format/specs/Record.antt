@@ -1,30 +1,29 @@
 -- The record of an instance: every entry of every table, from the bytes of the book. Assumes nothing.
-use Prim.Native.Nat.{ℕ, zero, suc, _+_, _*_, _≤_, _<_}
+use Prim.Native.Nat.{ℕ, _+_, _*_, _≤_, _<_}
 use mathlib.Core.Path.{_≡_}
-use mathlib.Core.Bool.{Bool, false}
+use mathlib.Core.Bool.{Bool}
 use mathlib.Core.List.{List}
 use lib.ListN.{length}
-use lib.Dec.{ltb}
+use lib.Dec.{leb}
 use denote.Ref.{RefT}
 use Rattle.laws.specs.Table.{cell}
+use Rattle.laws.specs.Values.{vec}
 use Rattle.format.specs.declared.record.Instance.{Instance}
 use Rattle.format.specs.Verdict.{Verdict, fine, refused, verdictOf}
 use Rattle.format.specs.Format.{largest, people, listLength, entry}
 use Rattle.format.specs.Check.{checkBook}
 use Rattle.format.specs.Place.{place}
 
--- Up to which n small tables do
+-- Up to which n small tables do, and whether they do for n
 abbrev pub small : ℕ
 small = 16
 
--- Whether they do for n: not for 0, where there is nothing to store
 abbrev pub isSmall : ℕ → Bool
-isSmall zero = false
-isSmall (suc k) = ltb k small
+isSmall n = leb n small
 
--- What a cell of a table of ranks holds before it is filled: no place
-abbrev pub unranked : ℕ
-unranked = 32768
+-- What a cell holds before it is filled: neither a person nor a place
+abbrev pub vacant : ℕ
+vacant = 32768
 
 -- The tables of one side of n persons, whose lists are those from number `from` on: the entries of each list in a row,
 -- after the n rows how long each is, and the place of w on it in a row of the ranks. Other cells may hold anything
@@ -67,7 +66,8 @@ pub record Recorded (b : List ℕ) (i : Instance) (r : Record) : Type 0 where
   pub tables : RecordIs b (numberIf (checkBook b) (people b)) r
   pub number : i .n ≡ r .n
 
--- Tables of a side as they are lent for a book: long enough for its n where that is not too large, whatever they hold
+-- Tables of a side as they are lent for a book: long enough for its n where that is not too large, and no rank is filled
 pub record LongTables (b lists ranks : List ℕ) : Type 0 where
   pub lists-long : people b ≤ largest → people b * people b + people b ≤ length lists
   pub ranks-long : people b ≤ largest → people b * people b ≤ length ranks
+  pub unfilled : (p : ℕ) → p < length ranks → vec ranks p ≡ vacant

@@ -25,6 +25,6 @@ impl Instance {
 
     pub const SMALL_RANKS: usize = Instance::SMALL * Instance::SMALL;
 
-    // What every cell of a table of ranks holds before it is filled: no place.
-    pub const UNRANKED: u16 = 32768;
+    // What every cell holds before it is filled: neither a person nor a place.
+    pub const VACANT: u16 = 32768;
 }

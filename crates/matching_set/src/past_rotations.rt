@@ -46,11 +46,11 @@ pub fn matching_to_set(book: &[u8], matching: &[u8], out: &mut [u8]) -> Counted
     ensures bytes { λ _. ⌜ now₁ out ≡ matchingSetBuffer (now₀ book) (now₀ matching) (now₀ out) ⌝ }
 {
     if is_small(book) {
-        let mut mlists = [0u16; Instance::SMALL_LISTS];
-        let mut mranks = [0u16; Instance::SMALL_RANKS];
-        let mut wlists = [0u16; Instance::SMALL_LISTS];
-        let mut wranks = [0u16; Instance::SMALL_RANKS];
-        let mut list = [0u16; SMALL_ROOM];
+        let mut mlists = [Instance::VACANT; Instance::SMALL_LISTS];
+        let mut mranks = [Instance::VACANT; Instance::SMALL_RANKS];
+        let mut wlists = [Instance::VACANT; Instance::SMALL_LISTS];
+        let mut wranks = [Instance::VACANT; Instance::SMALL_RANKS];
+        let mut list = [Instance::VACANT; SMALL_ROOM];
         return matching_with(
             book,
             &mut mlists,
@@ -62,11 +62,11 @@ pub fn matching_to_set(book: &[u8], matching: &[u8], out: &mut [u8]) -> Counted
             out,
         );
     }
-    let mut mlists = [0u16; Instance::LISTS];
-    let mut mranks = [0u16; Instance::RANKS];
-    let mut wlists = [0u16; Instance::LISTS];
-    let mut wranks = [0u16; Instance::RANKS];
-    let mut list = [0u16; ROOM];
+    let mut mlists = [Instance::VACANT; Instance::LISTS];
+    let mut mranks = [Instance::VACANT; Instance::RANKS];
+    let mut wlists = [Instance::VACANT; Instance::LISTS];
+    let mut wranks = [Instance::VACANT; Instance::RANKS];
+    let mut list = [Instance::VACANT; ROOM];
     matching_with(
         book,
         &mut mlists,

@@ -31,11 +31,11 @@ pub fn precedes(book: &[u8], first: usize, second: usize) -> Precedence
     ensures { λ r. ⌜ precedenceOutcome r ≡ precedenceReply (now₀ book) first second ⌝ }
 {
     if is_small(book) {
-        let mut mlists = [0u16; Instance::SMALL_LISTS];
-        let mut mranks = [0u16; Instance::SMALL_RANKS];
-        let mut wlists = [0u16; Instance::SMALL_LISTS];
-        let mut wranks = [0u16; Instance::SMALL_RANKS];
-        let mut list = [0u16; SMALL_ROOM];
+        let mut mlists = [Instance::VACANT; Instance::SMALL_LISTS];
+        let mut mranks = [Instance::VACANT; Instance::SMALL_RANKS];
+        let mut wlists = [Instance::VACANT; Instance::SMALL_LISTS];
+        let mut wranks = [Instance::VACANT; Instance::SMALL_RANKS];
+        let mut list = [Instance::VACANT; SMALL_ROOM];
         return precedes_with(
             book,
             &mut mlists,
@@ -47,11 +47,11 @@ pub fn precedes(book: &[u8], first: usize, second: usize) -> Precedence
             second,
         );
     }
-    let mut mlists = [0u16; Instance::LISTS];
-    let mut mranks = [0u16; Instance::RANKS];
-    let mut wlists = [0u16; Instance::LISTS];
-    let mut wranks = [0u16; Instance::RANKS];
-    let mut list = [0u16; ROOM];
+    let mut mlists = [Instance::VACANT; Instance::LISTS];
+    let mut mranks = [Instance::VACANT; Instance::RANKS];
+    let mut wlists = [Instance::VACANT; Instance::LISTS];
+    let mut wranks = [Instance::VACANT; Instance::RANKS];
+    let mut list = [Instance::VACANT; ROOM];
     precedes_with(
         book,
         &mut mlists,

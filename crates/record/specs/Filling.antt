@@ -9,7 +9,7 @@ use Rattle.laws.specs.Every.{every}
 use Rattle.laws.specs.Table.{cell}
 use Rattle.laws.specs.Values.{vec}
 use Rattle.format.specs.Format.{largest}
-use Rattle.format.specs.Record.{unranked}
+use Rattle.format.specs.Record.{vacant}
 
 -- The bytes l are n lists of n entries, end to end, and every entry is below n
 pub record Block (n : ℕ) (l : List ℕ) : Type 0 where
@@ -27,7 +27,7 @@ pub record ListsFilled (n : ℕ) (l lists : List ℕ) : Type 0 where
 -- other rank is no place, and each of the entries has a rank below m
 pub record ListRanked (n m : ℕ) (l rank : ℕ → ℕ) : Type 0 where
   pub stands : {v : ℕ} → v < n → rank v < m → l (rank v) ≡ v
-  pub left : {v : ℕ} → v < n → m ≤ rank v → rank v ≡ unranked
+  pub left : {v : ℕ} → v < n → m ≤ rank v → rank v ≡ vacant
   pub met : {j : ℕ} → j < m → rank (l j) < m
 
 -- What the function that fills one row needs: entries of the list below its length, and a row as long as it, of which
@@ -36,18 +36,18 @@ pub record RowSource (list row : List ℕ) : Type 0 where
   pub few : length list ≤ largest
   pub below : {j : ℕ} → j < length list → vec list j < length list
   pub same : length row ≡ length list
-  pub blank : {v : ℕ} → v < length list → vec row v ≡ unranked
+  pub blank : {v : ℕ} → v < length list → vec row v ≡ vacant
 
 -- A table of ranks of which the first `rows` of n rows are filled from the lists in l, and no cell of the others is
 pub record RankRows (n : ℕ) (l : List ℕ) (rows : ℕ) (ranks : List ℕ) : Type 0 where
   pub done : {i : ℕ} → i < rows → ListRanked n n (λ j. cell l n i j) (λ v. cell ranks n i v)
-  pub blank : {i v : ℕ} → rows ≤ i → i < n → v < n → cell ranks n i v ≡ unranked
+  pub blank : {i v : ℕ} → rows ≤ i → i < n → v < n → cell ranks n i v ≡ vacant
   pub room : n * n ≤ length ranks
 
 -- The table of ranks with all rows filled, and whether no cell of them is left
 pub record RanksFilled (n : ℕ) (l ranks : List ℕ) (full : Bool) : Type 0 where
   pub rows : RankRows n l n ranks
-  pub whole : full ≡ every (n * n) (λ p. ltb (vec ranks p) unranked)
+  pub whole : full ≡ every (n * n) (λ p. ltb (vec ranks p) vacant)
 
 -- Both tables of a side
 pub record SideFilled (n : ℕ) (l lists ranks : List ℕ) (full : Bool) : Type 0 where

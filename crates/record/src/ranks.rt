@@ -1,36 +1,23 @@
-// Fills a table of ranks, whose cells first get a mark that is no place: where a cell is left at it the list of its row
-// does not name the person of its column.
+// Fills a table of ranks, whose cells hold no place before: where a cell is left so the list of its row does not name
+// the person of its column.
 use book::wide;
 use format::Instance;
 ghost use mathlib.Core.Path.{_≡_};
-ghost use Prim.Native.Nat.{ℕ, _*_, _≤_, _<_};
+ghost use Prim.Native.Nat.{_*_, _≤_};
 ghost use lib.ListN.{length};
 ghost use lib.Dec.{ltb};
 ghost use Rattle.laws.specs.Every.{every};
 ghost use Rattle.laws.specs.Moment.{now₀, now₁, vec₀, vec₁};
-ghost use Rattle.format.specs.Record.{unranked};
+ghost use Rattle.format.specs.Record.{vacant};
 ghost use Rattle.record.specs.Filling.{Block, ListRanked, RanksFilled, RankRows, RowSource};
 
 // Fills a table of ranks from the bytes of n lists, and says whether each list names everybody.
 pub fn rank_lists(bytes: &[u8], n: usize, ranks: &mut [u16]) -> bool
-    requires { ⌜ Block n (now bytes) × (n * n ≤ length (now ranks)) ⌝ }
+    requires { ⌜ Block n (now bytes) × RankRows n (now bytes) 0 (now ranks) ⌝ }
     ensures { λ r. ⌜ RanksFilled n (now₀ bytes) (now₁ ranks) r ⌝ }
 {
-    clear(ranks, n * n);
     rank_rows(bytes, n, ranks);
     all_ranked(ranks, n * n)
-}
-
-// Puts the mark into the first `end` cells.
-fn clear(ranks: &mut [u16], end: usize)
-    requires { ⌜ end ≤ length (now ranks) ⌝ }
-    ensures { λ _. ⌜ ((p : ℕ) → p < end → vec₁ ranks p ≡ unranked) ⌝ }
-{
-    let mut p = 0;
-    while p < end {
-        ranks[p] = Instance::UNRANKED;
-        p += 1;
-    }
 }
 
 // Fills the rows one after the other.
@@ -60,11 +47,11 @@ fn rank_row(list: &[u8], row: &mut [u16])
     }
 }
 
-// Whether none of the first `end` cells is left at the mark. A place is below it, and the mark is a power of two, so
-// that the bits of many cells are gathered at a time.
+// Whether none of the first `end` cells is left vacant. A place is below what a vacant cell holds, which is a power of
+// two, so that the bits of many cells are gathered at a time.
 fn all_ranked(ranks: &[u16], end: usize) -> bool
     requires { ⌜ end ≤ length (now ranks) ⌝ }
-    ensures { λ r. ⌜ r ≡ every end (λ p. ltb (vec₀ ranks p) unranked) ⌝ }
+    ensures { λ r. ⌜ r ≡ every end (λ p. ltb (vec₀ ranks p) vacant) ⌝ }
 {
     let mut bits: u16 = 0;
     let mut p = 0;
@@ -72,5 +59,5 @@ fn all_ranked(ranks: &[u16], end: usize) -> bool
         bits |= ranks[p];
         p += 1;
     }
-    bits < Instance::UNRANKED
+    bits < Instance::VACANT
 }

@@ -14,9 +14,9 @@ ghost use Rattle.laws.specs.Moment.{now₀, now₁};
 ghost use Rattle.format.specs.Verdict.{verdictOf};
 ghost use Rattle.format.specs.Check.{checkBook};
 ghost use Rattle.format.specs.Record.{recordOf, Recorded, LongTables};
-ghost use Rattle.record.specs.Filling.{Block, SideFilled};
+ghost use Rattle.record.specs.Filling.{Block, RankRows, SideFilled};
 
-// Makes the record of a book in the lent tables, whatever they hold. Of a book that is refused n is 0, and the tables
+// Makes the record of a book in the lent tables, in which no rank is filled. Of a book that is refused n is 0, and the tables
 // may hold anything afterwards.
 pub fn load(
     book: &[u8],
@@ -57,7 +57,7 @@ fn without_tables(book: &[u8]) -> Instance
 
 // Fills the tables of one side from the bytes of its lists, and says whether each list names everybody.
 fn fill_side(bytes: &[u8], n: usize, lists: &mut [u16], ranks: &mut [u16]) -> bool
-    requires { ⌜ Block n (now bytes) × (n * n + n ≤ length (now lists)) × (n * n ≤ length (now ranks)) ⌝ }
+    requires { ⌜ Block n (now bytes) × (n * n + n ≤ length (now lists)) × RankRows n (now bytes) 0 (now ranks) ⌝ }
     ensures { λ r. ⌜ SideFilled n (now₀ bytes) (now₁ lists) (now₁ ranks) r ⌝ }
 {
     fill_lists(bytes, n, lists);

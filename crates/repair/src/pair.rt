@@ -35,10 +35,10 @@ pub fn repair(
     ensures places { λ _. ⌜ now₁ gains ≡ repairGains (now₀ book) (now₀ matching) (now₀ request) (now₀ out) (now₀ gains) ⌝ }
 {
     if is_small(book) {
-        let mut mlists = [0u16; Instance::SMALL_LISTS];
-        let mut mranks = [0u16; Instance::SMALL_RANKS];
-        let mut wlists = [0u16; Instance::SMALL_LISTS];
-        let mut wranks = [0u16; Instance::SMALL_RANKS];
+        let mut mlists = [Instance::VACANT; Instance::SMALL_LISTS];
+        let mut mranks = [Instance::VACANT; Instance::SMALL_RANKS];
+        let mut wlists = [Instance::VACANT; Instance::SMALL_LISTS];
+        let mut wranks = [Instance::VACANT; Instance::SMALL_RANKS];
         return repair_with(
             book,
             &mut mlists,
@@ -51,10 +51,10 @@ pub fn repair(
             gains,
         );
     }
-    let mut mlists = [0u16; Instance::LISTS];
-    let mut mranks = [0u16; Instance::RANKS];
-    let mut wlists = [0u16; Instance::LISTS];
-    let mut wranks = [0u16; Instance::RANKS];
+    let mut mlists = [Instance::VACANT; Instance::LISTS];
+    let mut mranks = [Instance::VACANT; Instance::RANKS];
+    let mut wlists = [Instance::VACANT; Instance::LISTS];
+    let mut wranks = [Instance::VACANT; Instance::RANKS];
     repair_with(
         book,
         &mut mlists,

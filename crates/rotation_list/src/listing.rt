@@ -30,11 +30,11 @@ pub fn list(book: &[u8], out: &mut [u8]) -> Counted
     ensures bytes { λ _. ⌜ now₁ out ≡ listBuffer (now₀ book) (now₀ out) ⌝ }
 {
     if is_small(book) {
-        let mut mlists = [0u16; Instance::SMALL_LISTS];
-        let mut mranks = [0u16; Instance::SMALL_RANKS];
-        let mut wlists = [0u16; Instance::SMALL_LISTS];
-        let mut wranks = [0u16; Instance::SMALL_RANKS];
-        let mut list = [0u16; SMALL_ROOM];
+        let mut mlists = [Instance::VACANT; Instance::SMALL_LISTS];
+        let mut mranks = [Instance::VACANT; Instance::SMALL_RANKS];
+        let mut wlists = [Instance::VACANT; Instance::SMALL_LISTS];
+        let mut wranks = [Instance::VACANT; Instance::SMALL_RANKS];
+        let mut list = [Instance::VACANT; SMALL_ROOM];
         return list_with(
             book,
             &mut mlists,
@@ -45,11 +45,11 @@ pub fn list(book: &[u8], out: &mut [u8]) -> Counted
             out,
         );
     }
-    let mut mlists = [0u16; Instance::LISTS];
-    let mut mranks = [0u16; Instance::RANKS];
-    let mut wlists = [0u16; Instance::LISTS];
-    let mut wranks = [0u16; Instance::RANKS];
-    let mut list = [0u16; ROOM];
+    let mut mlists = [Instance::VACANT; Instance::LISTS];
+    let mut mranks = [Instance::VACANT; Instance::RANKS];
+    let mut wlists = [Instance::VACANT; Instance::LISTS];
+    let mut wranks = [Instance::VACANT; Instance::RANKS];
+    let mut list = [Instance::VACANT; ROOM];
     list_with(
         book,
         &mut mlists,

@@ -99,9 +99,9 @@ pub fn number_all<'a>(
 {
     if n <= Instance::SMALL {
         let mut waits = [0u16; Instance::SMALL_RANKS];
-        let mut pairs = [0u16; SMALL_ROOM];
-        let mut starts = [0u16; SMALL_MOST];
-        let mut left = [0u16; SMALL_MOST];
+        let mut pairs = [Instance::VACANT; SMALL_ROOM];
+        let mut starts = [Instance::VACANT; SMALL_MOST];
+        let mut left = [Instance::VACANT; SMALL_MOST];
         return number_with(
             n,
             mlists,
@@ -116,9 +116,9 @@ pub fn number_all<'a>(
         );
     }
     let mut waits = [0u16; Instance::RANKS];
-    let mut pairs = [0u16; ROOM];
-    let mut starts = [0u16; MOST];
-    let mut left = [0u16; MOST];
+    let mut pairs = [Instance::VACANT; ROOM];
+    let mut starts = [Instance::VACANT; MOST];
+    let mut left = [Instance::VACANT; MOST];
     number_with(
         n,
         mlists,

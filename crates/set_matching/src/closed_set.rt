@@ -27,11 +27,11 @@ pub fn set_to_matching(book: &[u8], set: &[u8], out: &mut [u8]) -> Checked
     ensures bytes { λ _. ⌜ now₁ out ≡ setMatchingBuffer (now₀ book) (now₀ set) (now₀ out) ⌝ }
 {
     if is_small(book) {
-        let mut mlists = [0u16; Instance::SMALL_LISTS];
-        let mut mranks = [0u16; Instance::SMALL_RANKS];
-        let mut wlists = [0u16; Instance::SMALL_LISTS];
-        let mut wranks = [0u16; Instance::SMALL_RANKS];
-        let mut list = [0u16; SMALL_ROOM];
+        let mut mlists = [Instance::VACANT; Instance::SMALL_LISTS];
+        let mut mranks = [Instance::VACANT; Instance::SMALL_RANKS];
+        let mut wlists = [Instance::VACANT; Instance::SMALL_LISTS];
+        let mut wranks = [Instance::VACANT; Instance::SMALL_RANKS];
+        let mut list = [Instance::VACANT; SMALL_ROOM];
         return set_with(
             book,
             &mut mlists,
@@ -43,11 +43,11 @@ pub fn set_to_matching(book: &[u8], set: &[u8], out: &mut [u8]) -> Checked
             out,
         );
     }
-    let mut mlists = [0u16; Instance::LISTS];
-    let mut mranks = [0u16; Instance::RANKS];
-    let mut wlists = [0u16; Instance::LISTS];
-    let mut wranks = [0u16; Instance::RANKS];
-    let mut list = [0u16; ROOM];
+    let mut mlists = [Instance::VACANT; Instance::LISTS];
+    let mut mranks = [Instance::VACANT; Instance::RANKS];
+    let mut wlists = [Instance::VACANT; Instance::LISTS];
+    let mut wranks = [Instance::VACANT; Instance::RANKS];
+    let mut list = [Instance::VACANT; ROOM];
     set_with(
         book,
         &mut mlists,

@@ -47,10 +47,10 @@ fn put_sheet(input: &[u8], text: &mut [u8]) -> usize
     let book = &input[..end];
     let matching = &input[end..];
     if is_small(book) {
-        let mut mlists = [0u16; Instance::SMALL_LISTS];
-        let mut mranks = [0u16; Instance::SMALL_RANKS];
-        let mut wlists = [0u16; Instance::SMALL_LISTS];
-        let mut wranks = [0u16; Instance::SMALL_RANKS];
+        let mut mlists = [Instance::VACANT; Instance::SMALL_LISTS];
+        let mut mranks = [Instance::VACANT; Instance::SMALL_RANKS];
+        let mut wlists = [Instance::VACANT; Instance::SMALL_LISTS];
+        let mut wranks = [Instance::VACANT; Instance::SMALL_RANKS];
         return put_with(
             book,
             &mut mlists,
@@ -61,10 +61,10 @@ fn put_sheet(input: &[u8], text: &mut [u8]) -> usize
             text,
         );
     }
-    let mut mlists = [0u16; Instance::LISTS];
-    let mut mranks = [0u16; Instance::RANKS];
-    let mut wlists = [0u16; Instance::LISTS];
-    let mut wranks = [0u16; Instance::RANKS];
+    let mut mlists = [Instance::VACANT; Instance::LISTS];
+    let mut mranks = [Instance::VACANT; Instance::RANKS];
+    let mut wlists = [Instance::VACANT; Instance::LISTS];
+    let mut wranks = [Instance::VACANT; Instance::RANKS];
     put_with(
         book,
         &mut mlists,

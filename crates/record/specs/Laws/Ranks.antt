@@ -13,11 +13,11 @@ use Rattle.laws.specs.First.{some-true}
 use Rattle.laws.specs.Onto.{Into, taken, onto-into}
 use Rattle.laws.specs.Values.{vec}
 use Rattle.format.specs.Format.{largest}
-use Rattle.format.specs.Record.{unranked}
+use Rattle.format.specs.Record.{vacant}
 use Rattle.record.specs.Filling.{ListRanked}
 
 -- no entry is stored at the start
-pub ranked-start : {n : ℕ} (l rank : ℕ → ℕ) → ((v : ℕ) → v < n → rank v ≡ unranked) → ListRanked n 0 l rank
+pub ranked-start : {n : ℕ} (l rank : ℕ → ℕ) → ((v : ℕ) → v < n → rank v ≡ vacant) → ListRanked n 0 l rank
 ranked-start l rank h =
     record { stands = λ u k. absurd (omega arith); left = λ {v} u k. h v u; met = λ u. absurd (omega arith) }
 
@@ -48,11 +48,11 @@ module _
 
 module _ {n : ℕ} {l rank : ℕ → ℕ} (R : ListRanked n n l rank) (few : n ≤ largest) where
   -- a rank that is not left is a place
-  pub place-lt : {v : ℕ} → v < n → rank v < unranked → rank v < n
+  pub place-lt : {v : ℕ} → v < n → rank v < vacant → rank v < n
   place-lt {v} u h = split n (rank v) (λ k. absurd (omega (arith, R .left u k))) (λ k. k)
 
   -- where no rank is left the list names everybody, once
-  pub ranked-names : ((v : ℕ) → v < n → rank v < unranked) → Into n n l
+  pub ranked-names : ((v : ℕ) → v < n → rank v < vacant) → Into n n l
   ranked-names h =
       onto-into n l (λ v u. let k = place-lt u (h v u) in some-true (λ i. eqb (l i) v) k (eq-eqb _ _ (R .stands u k)))
 

@@ -18,24 +18,26 @@ use Rattle.format.specs.Format.{largest, people, entry}
 use Rattle.format.specs.Check.{checkBook}
 use Rattle.format.specs.WellFormed.{WellFormed}
 use Rattle.format.specs.Place.{place}
-use Rattle.format.specs.Record.{unranked, SideTables, LongTables}
+use Rattle.format.specs.Record.{vacant, SideTables, LongTables}
 use Rattle.format.specs.Frame.{RightEntries, ListsFrom}
 use Rattle.format.specs.Laws.Frame.{fine-names}
 use Rattle.format.specs.Laws.Sides.{side-list}
 use Rattle.record.specs.Filling.{Block, RankRows, SideFilled}
 use Rattle.record.specs.Laws.Ranks.{place-lt, ranked-names, names-ranked}
 
--- a table of ranks whose cells have the mark has no row filled
-pub rows-start : {n : ℕ} {l ranks : List ℕ} → n * n ≤ length ranks → ((p : ℕ) → p < n * n → vec ranks p ≡ unranked) → RankRows n l 0 ranks
+-- a table of ranks with vacant cells has no row filled
+rows-start : {n : ℕ} {l ranks : List ℕ} → n * n ≤ length ranks → ((p : ℕ) → p < length ranks → vec ranks p ≡ vacant) → RankRows n l 0 ranks
 rows-start {n} h e =
-    record { done = λ u. absurd (omega arith); blank = λ {i} {v} z u w. e (i * n + v) (cell-lt u w); room = h }
+    record { done = λ u. absurd (omega arith); blank = λ {i} {v} z u w. e (i * n + v) (omega (arith, cell-lt u w, h)); room = h }
 
--- tables that are lent for a book have room for its lists and their ranks
-pub side-room : {b lists ranks : List ℕ} {n : ℕ} → RightEntries b n → LongTables b lists ranks → (n * n + n ≤ length lists) × (n * n ≤ length ranks)
-side-room {b} {lists} {ranks} E T =
+-- tables that are lent for a book have room for its lists, and no row of ranks is filled
+pub side-room :
+    {b lists ranks : List ℕ} {n : ℕ} (l : List ℕ) → RightEntries b n → LongTables b lists ranks
+    → (n * n + n ≤ length lists) × RankRows n l 0 ranks
+side-room {b} {lists} {ranks} l E T =
     let q = E .frame .opened .number in
     let f : people b ≤ largest = rw (← q) (E .frame .opened .few) in
-    subst⁻¹ (λ (k : ℕ). (k * k + k ≤ length lists) × (k * k ≤ length ranks)) q (T .lists-long f, T .ranks-long f)
+    subst⁻¹ (λ (k : ℕ). (k * k + k ≤ length lists) × RankRows k l 0 ranks) q (T .lists-long f, rows-start (T .ranks-long f) (T .unfilled))
 
 module _ {b l : List ℕ} {n from : ℕ} (E : RightEntries b n) (h : from ≤ n) (L : ListsFrom b n from n l) where
   -- the bytes of the lists are n lists with entries below n
@@ -49,8 +51,8 @@ module _ {b l : List ℕ} {n from : ℕ} (E : RightEntries b n) (h : from ≤ n)
 
   module _ {lists ranks : List ℕ} {full : Bool} (S : SideFilled n l lists ranks full) where
     -- no cell of the ranks is left
-    whole : full ≡ true → {i w : ℕ} → i < n → w < n → cell ranks n i w < unranked
-    whole e u v = ltb-true _ _ (every-true (n * n) (λ p. ltb (vec ranks p) unranked) (sym (S .in-ranks .whole) ∙ e) _ (cell-lt u v))
+    whole : full ≡ true → {i w : ℕ} → i < n → w < n → cell ranks n i w < vacant
+    whole e u v = ltb-true _ _ (every-true (n * n) (λ p. ltb (vec ranks p) vacant) (sym (S .in-ranks .whole) ∙ e) _ (cell-lt u v))
 
     -- so each list names everybody
     pub side-names : full ≡ true → (i : ℕ) → i < n → Into n n (entry b (from + i))
@@ -73,11 +75,11 @@ module _ {b l : List ℕ} {n from : ℕ} (E : RightEntries b n) (h : from ≤ n)
 
     -- a cell that is left is that of somebody whom the list does not name
     pub side-refused : full ≡ false → checkBook b ≡ fine → ⊥
-    side-refused e f = clash (S .in-ranks .whole ∙ every-all (n * n) (λ p. ltb (vec ranks p) unranked) ranked) e
+    side-refused e f = clash (S .in-ranks .whole ∙ every-all (n * n) (λ p. ltb (vec ranks p) vacant) ranked) e
       where
-        ranked : (p : ℕ) → p < n * n → ltb (vec ranks p) unranked ≡ true
+        ranked : (p : ℕ) → p < n * n → ltb (vec ranks p) vacant ≡ true
         ranked p u =
             let r = in-rows n n p u in
             let I = into-cong (fine-names (E .frame) f {k = from + r .row} (omega (arith, r .row-lt))) (λ j v. L .entries (r .row-lt) v) in
             let w = names-ranked (S .in-ranks .rows .done (r .row-lt)) (side-block .few) I (r .column-lt) in
-            lt-ltb (vec ranks p) unranked (omega (arith, ap (vec ranks) (r .index), w, side-block .few))
+            lt-ltb (vec ranks p) vacant (omega (arith, ap (vec ranks) (r .index), w, side-block .few))

@@ -1,27 +1,27 @@
--- Lists of zeros are long enough for the rotations of a record and of a book. Assumes nothing.
+-- Lists that are lent are long enough for the rotations of a record and of a book. Assumes nothing.
 use Prim.Native.Nat.{ℕ, _*_, _/_, _≤_, _<_}
 use mathlib.Core.Path.{_≡_, refl, subst⁻¹}
 use mathlib.Core.Bool.{true}
 use mathlib.Core.List.{List}
 use native.Mathlib.Omega.{arith}
 use native.Mathlib.Nat.{mul-le-mul}
-use lib.ListN.{length-replicate}
+use lib.ListN.{replicate, length-replicate}
 use Rattle.laws.specs.Table.{zeros-read}
 use Rattle.laws.specs.Padded.{zeros}
 use Rattle.format.specs.Format.{largest, people}
-use Rattle.format.specs.Record.{Record, small, isSmall}
+use Rattle.format.specs.Record.{Record, small, isSmall, vacant}
 use Rattle.format.specs.Laws.LongTables.{small-upto}
 use Rattle.instances.specs.Laws.Read.{Read}
 use Rattle.rotation_numbering.specs.Numbering.{ListRoom, LongList, EmptyNotes}
 
--- lists of zeros for the rotations found, of c, p and m entries
+-- lists for the rotations found, of c, p and m entries: a table of zeros, and whatever is vacant
 pub empty-notes :
     {n : ℕ} (c p m : ℕ) → n * n ≤ c → 5 * (n * n) ≤ 2 * p → p < 65536 → n * n ≤ 2 * m → m < 65535
-    → EmptyNotes n (zeros c) (zeros p) (zeros m) (zeros m)
+    → EmptyNotes n (zeros c) (replicate p vacant) (replicate m vacant) (replicate m vacant)
 empty-notes c p m h u f v g =
     let i = length-replicate {A = ℕ} c 0 in
-    let j = length-replicate {A = ℕ} p 0 in
-    let k = length-replicate {A = ℕ} m 0 in
+    let j = length-replicate {A = ℕ} p vacant in
+    let k = length-replicate {A = ℕ} m vacant in
     record {
       cells = omega (arith, i);
       blank = λ w. zeros-read c w;
@@ -32,14 +32,14 @@ empty-notes c p m h u f v g =
       lefts = refl;
     }
 
--- a list of zeros is long enough for a book: small tables are lent where they do, and otherwise large ones
-pub small-list : (b : List ℕ) → isSmall (people b) ≡ true → LongList b (zeros (5 * (small * small) / 2))
+-- a vacant list is long enough for a book: small tables are lent where they do, and otherwise large ones
+pub small-list : (b : List ℕ) → isSmall (people b) ≡ true → LongList b (replicate (5 * (small * small) / 2) vacant)
 small-list b e f =
     let h = small-upto (people b) e in
-    omega (arith, mul-le-mul h h, length-replicate {A = ℕ} (5 * (small * small) / 2) 0)
+    omega (arith, mul-le-mul h h, length-replicate {A = ℕ} (5 * (small * small) / 2) vacant)
 
-pub large-list : (b : List ℕ) → LongList b (zeros (5 * (largest * largest) / 2))
-large-list b f = omega (arith, mul-le-mul f f, length-replicate {A = ℕ} (5 * (largest * largest) / 2) 0)
+pub large-list : (b : List ℕ) → LongList b (replicate (5 * (largest * largest) / 2) vacant)
+large-list b f = omega (arith, mul-le-mul f f, length-replicate {A = ℕ} (5 * (largest * largest) / 2) vacant)
 
 -- and so for the record of that book
 pub list-room : {b : List ℕ} {r : Record} (list : List ℕ) → Read b r → LongList b list → ListRoom (r .n) list

@@ -6,13 +6,13 @@ use native.Mathlib.Omega.{arith}
 use lib.Dec.{ltb}
 use Rattle.laws.specs.Every.{every}
 use Rattle.laws.specs.Values.{vec}
-use Rattle.format.specs.Record.{unranked}
+use Rattle.format.specs.Record.{vacant}
 use Rattle.record.specs.Laws.Gathered.{gathered-on}
 use Rattle.record.proofs.ranks.all_ranked.Statement.{statement}
 use Rattle.record.proofs.ranks.all_ranked.Tie as tie
 
 abbrev Inv-loop : tie.InvT-loop
-Inv-loop ranks end bits₀ p₀ bits p = (p ≤ end) × (ltb bits unranked ≡ every p (λ q. ltb (vec ranks q) unranked))
+Inv-loop ranks end bits₀ p₀ bits p = (p ≤ end) × (ltb bits vacant ≡ every p (λ q. ltb (vec ranks q) vacant))
 
 abbrev μ-loop : tie.MeasureT-loop
 μ-loop ranks end bits₀ p₀ bits p = end - p
@@ -28,7 +28,7 @@ returns c =
     let s : tie.Start Inv-loop μ-loop = search in
     let l : tie.At-loop Inv-loop μ-loop = search in
     let e : l .loop .p ≡ s .args .end = omega arith in
-    l .loop .inv .1 ∙ ap (λ (k : ℕ). every k (λ q. ltb (vec (s .args .ranks .now) q) unranked)) e
+    l .loop .inv .1 ∙ ap (λ (k : ℕ). every k (λ q. ltb (vec (s .args .ranks .now) q) vacant)) e
 
 pub all-ranked-spec : {M : Type 1} → statement M
 all-ranked-spec =

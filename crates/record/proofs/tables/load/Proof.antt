@@ -51,7 +51,7 @@ fill-side-requires c κs =
     let m : tie.After-lists-from = search in
     let s : tie.Start = search in
     let E = right (people m) in
-    let r = side-room E (s .pre .0) in
+    let r = side-room _ E (s .pre .0) in
     (side-block E (omega arith) (m .lists-from .ensures), r .0, r .1)
 
 returns-2 : tie.Need-returns-2
@@ -69,7 +69,7 @@ fill-side-requires-2 : tie.Need-fill-side-requires-2
 fill-side-requires-2 c κs =
     let w : tie.After-lists-from2 = search in
     let k = people (mens (filled w)) in
-    let r = side-room (right k) (start (framed k) .pre .1) in
+    let r = side-room _ (right k) (start (framed k) .pre .1) in
     (side-block (right k) (omega arith) (w .lists-from2 .ensures), r .0, r .1)
 
 returns-3 : tie.Need-returns-3
