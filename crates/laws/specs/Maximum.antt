@@ -3,7 +3,7 @@ use Prim.Native.Nat.{ℕ, zero, suc, max, _+_, _-_, _≤_, _<_}
 use mathlib.Core.Path.{_≡_, ap}
 use native.Mathlib.Omega.{arith}
 use native.Mathlib.Numerals.{add-one}
-use Rattle.laws.specs.Choice.{same}
+use Rattle.laws.specs.Choice.{same, split}
 
 -- the largest of f 0, …, f (n - 1), or 0 where n is 0
 abbrev pub maximum : ℕ → (ℕ → ℕ) → ℕ
@@ -19,6 +19,13 @@ maximum-ge (suc n) f i u = same i n (λ e. rw e (omega arith)) (λ ne. omega (ar
 pub maximum-le : (n : ℕ) (f : ℕ → ℕ) (g : ℕ) → ((i : ℕ) → i < n → f i ≤ g) → maximum n f ≤ g
 maximum-le zero f g h = omega arith
 maximum-le (suc n) f g h = omega (arith, maximum-le n f g (λ i u. h i (omega arith)), h n (omega arith))
+
+-- and the largest, if it is not 0, is a value
+pub maximum-at : (n : ℕ) (f : ℕ → ℕ) → 0 < maximum n f → (i : ℕ) × (i < n) × (f i ≡ maximum n f)
+maximum-at zero f l = absurd (omega arith)
+maximum-at (suc n) f l =
+    split (maximum n f) (f n) (λ h. (n, omega arith, omega arith))
+    (λ h. let k = maximum-at n f (omega arith) in (k .0, omega (arith, k .1), omega (arith, k .2)))
 
 -- the step of a loop that finds it
 pub maximum-more : (f : ℕ → ℕ) {i k x : ℕ} → k ≡ maximum i f → x ≡ f i → max k x ≡ maximum (i + 1) f

@@ -1,5 +1,5 @@
--- Demand 3, whole, of the definitions that the contracts cite. Each proof is a citation. The words are those of
--- Promise.antt. Assumes nothing.
+-- Demand 3, whole, of the definitions that the contracts cite, and that document 01's words leave no choice. Each
+-- proof is a citation. The words are those of Promise.antt. Assumes nothing.
 use Prim.Native.Nat.{ℕ, _≤_, _<_}
 use mathlib.Core.Path.{_≡_}
 use mathlib.Core.List.{List}
@@ -7,13 +7,16 @@ use mathlib.Core.Logic.{_↔_}
 use lib.ListN.{length}
 use lib.IntN.{ℤ}
 use Rattle.format.specs.Verdict.{fine}
-use Rattle.format.specs.Outcome.{gives}
+use Rattle.format.specs.Outcome.{Outcome, gives}
 use Rattle.format.specs.Format.{people}
 use Rattle.matchings.specs.Matching.{checkMatching}
-use Rattle.repairs.specs.Repair.{fixed, repairReply, repairMatching, repairGains}
+use Rattle.repairs.specs.Repair.{RepairAnswer, fixed, repairReply, repairMatching, repairGains}
 use Rattle.repairs.specs.Grade.{gradeReply}
-use Rattle.repairs.specs.Promise.{pairOf, written, InEvery, Takes, Fewest, Gained, Covers}
-use Rattle.repairs.specs.Laws.Demand3.{fixed-iff, takes, gains-are, grade-is}
+use Rattle.repairs.specs.Promise.{pairOf, written, InEvery, RepairUp, RepairDown, Takes, Fewest, Gained, Covers, AnswerIs, LargestLessOne}
+use Rattle.repairs.specs.Laws.Demand3.{fixed-iff, takes, gains-are, answered}
+use Rattle.repairs.specs.Laws.OneRepair.{one-up, one-down, one-taken, only-one}
+use Rattle.repairs.specs.Laws.GradeBytes.{grade-is}
+use Rattle.repairs.specs.Laws.GradeSentence.{grade-largest}
 
 -- A book that is well formed with a matching that is stable in it, a pair of it asked for alone, and lent buffers that
 -- are long enough
@@ -36,9 +39,37 @@ module _ (b m : List ℕ) (s : ℕ) (out : List ℕ) (gains : List ℤ)
       (InEvery b m s → ⊥) → Gained b m (written b (repairMatching b m (pairOf m s) out gains)) (repairGains b m (pairOf m s) out gains)
   places-gained = gains-are b m s out gains stable student room gains-room
 
+  -- nothing else meets the demand: a reply x and a matching r that do are these
+  pub nothing-else :
+      (r : List ℕ) (x : Outcome RepairAnswer) → (x ≡ gives fixed ↔ InEvery b m s) → ((InEvery b m s → ⊥) → Takes b m s r x) →
+      (x ≡ repairReply b m (pairOf m s) out gains)
+      × ((InEvery b m s → ⊥) → r ≡ written b (repairMatching b m (pairOf m s) out gains))
+  nothing-else = only-one b m s out gains stable student room gains-room
+
+  -- the answer is the same for all buffers that are long enough, whatever they hold
+  pub answer-same : (a : RepairAnswer) × (repairReply b m (pairOf m s) out gains ≡ gives a) × AnswerIs b m s a
+  answer-same = answered b m s out gains stable student room gains-room
+
+-- Document 01's words leave no choice of bytes: there is one repair up at most, and one repair down, and one that is
+-- taken, with one reply
+module _ (b m : List ℕ) (s : ℕ) (r k : List ℕ) where
+  pub one-repair-up : RepairUp b m s r → RepairUp b m s k → r ≡ k
+  one-repair-up = one-up
+
+  pub one-repair-down : RepairDown b m s r → RepairDown b m s k → r ≡ k
+  one-repair-down = one-down
+
+  pub one-repair-taken : (x y : Outcome RepairAnswer) → Takes b m s r x → Takes b m s k y → (r ≡ k) × (x ≡ y)
+  one-repair-taken x y = one-taken
+
 -- The grade is the least number such that, for each pair that is not fixed, some stable matching without it moves at
 -- most that many students besides the asking one
 pub grade-exactly :
     (b m : List ℕ) → checkMatching b m ≡ fine →
     (g : ℕ) × (gradeReply b m ≡ gives g) × Covers b m g × ((h : ℕ) → Covers b m h → g ≤ h)
 grade-exactly b m stable = grade-is b m stable
+
+-- In document 01's own sentence: it is the largest distance of an answer, less 1, over the pairs that are not fixed.
+-- It is 0 if all are fixed
+pub grade-sentence : (b m : List ℕ) → checkMatching b m ≡ fine → (g : ℕ) × (gradeReply b m ≡ gives g) × LargestLessOne b m g
+grade-sentence b m stable = grade-largest b m stable

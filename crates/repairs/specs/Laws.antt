@@ -1,8 +1,10 @@
--- What Demand3 cites: the theory's repairs as bytes. Assumes nothing.
+-- What Demand3 cites: the theory's repairs and its grade as bytes, and that there is one repair. Assumes nothing.
 pub mod Bytes
 pub mod RepairBytes
 pub mod AnswerBytes
-pub mod GradeBytes
 pub mod GainBytes
 pub mod Request
 pub mod Demand3
+pub mod OneRepair
+pub mod GradeBytes
+pub mod GradeSentence

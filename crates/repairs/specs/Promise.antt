@@ -5,7 +5,7 @@ use mathlib.Core.Path.{_≡_}
 use mathlib.Core.List.{List}
 use mathlib.Core.Bool.{not}
 use mathlib.Core.Logic.{_↔_}
-use lib.ListN.{take, getD}
+use lib.ListN.{length, take, getD}
 use lib.Dec.{eqb}
 use lib.IntN.{ℤ, pos, natAbs}
 use Rattle.laws.specs.Choice.{both}
@@ -15,7 +15,7 @@ use Rattle.format.specs.Verdict.{fine}
 use Rattle.format.specs.Outcome.{Outcome, gives}
 use Rattle.format.specs.Format.{largest, people, pairRow}
 use Rattle.matchings.specs.Matching.{manRank, checkMatching, womanOf}
-use Rattle.repairs.specs.Repair.{movedCount, RepairAnswer, up, down}
+use Rattle.repairs.specs.Repair.{movedCount, RepairAnswer, up, down, fixed, repairReply}
 
 -- The request for the pair of student s of m
 abbrev pub pairOf : List ℕ → ℕ → List ℕ
@@ -87,3 +87,21 @@ movedBesides n m k s = count n (λ i. both (not (eqb i s)) (not (eqb (womanOf k 
 -- For each pair of m that is not fixed some stable matching without it moves at most g students besides the asking one
 pub record Covers (b m : List ℕ) (g : ℕ) : Type 0 where
   pub covers : (s : ℕ) → s < people b → (InEvery b m s → ⊥) → (k : List ℕ) × Without b m s k × (movedBesides (people b) m k s ≤ g)
+
+-- The answer for the pair of student s is a: the reply to its request gives a, whatever the lent buffers hold, where
+-- they are long enough
+abbrev pub AnswerIs : List ℕ → List ℕ → ℕ → RepairAnswer → Type 0
+AnswerIs b m s a =
+    (out : List ℕ) (gains : List ℤ) → people b ≤ length out → people b ≤ length gains →
+    repairReply b m (pairOf m s) out gains ≡ gives a
+
+-- That answer is a repair, up or down, with the distance d
+pub data ReportedDistance (b m : List ℕ) (s d : ℕ) : Type 0 where
+  reported-up : AnswerIs b m s (up d) → ReportedDistance b m s d
+  reported-down : AnswerIs b m s (down d) → ReportedDistance b m s d
+
+-- g is the largest distance of an answer, less 1, over the pairs that are not fixed. It is 0 if all are fixed
+pub data LargestLessOne (b m : List ℕ) (g : ℕ) : Type 0 where
+  largest-less-one : {s d : ℕ} → s < people b → ReportedDistance b m s d →
+      ((t e : ℕ) → t < people b → ReportedDistance b m t e → e ≤ d) → g ≡ d - 1 → LargestLessOne b m g
+  all-fixed : ((s : ℕ) → s < people b → AnswerIs b m s fixed) → g ≡ 0 → LargestLessOne b m g

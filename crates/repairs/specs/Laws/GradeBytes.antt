@@ -1,23 +1,26 @@
 -- The grade of a book and a matching, of bytes: the least number that covers every pair that is not fixed. Assumes
 -- nothing.
 use Prim.Native.Nat.{ℕ, _≤_, _<_}
-use mathlib.Core.Path.{_≡_, ap}
+use mathlib.Core.Path.{_≡_, refl, sym, ap}
 use mathlib.Core.Bool.{Bool, not}
 use mathlib.Core.List.{List}
 use native.Mathlib.Omega.{arith}
 use lib.Dec.{eqb}
 use Rattle.laws.specs.Choice.{pick, both}
 use Rattle.laws.specs.SumLaws.{sum-same}
+use Rattle.format.specs.Verdict.{fine}
+use Rattle.format.specs.Outcome.{gives}
+use Rattle.format.specs.Laws.Outcome.{after-fine}
 use Rattle.format.specs.Format.{people}
 use Rattle.stable_theory.specs.Repairs.Repair.{moved}
 use Rattle.stable_theory.specs.Repairs.Answer.{besides, Robust}
 use Rattle.stable_theory.specs.Repairs.Demand3Theory.{supermatch, supermatch-least}
 use Rattle.matchings.specs.BookMarket.{market, market-proper}
-use Rattle.matchings.specs.Matching.{vectorOf, MatchingIn, StableIn, womanOf}
+use Rattle.matchings.specs.Matching.{vectorOf, checkMatching, MatchingIn, StableIn, womanOf}
 use Rattle.matchings.specs.Extreme.{matchingOf}
 use Rattle.matchings.specs.Laws.StableCheck.{fine-stable}
 use Rattle.matchings.specs.Laws.StableVector.{matching-of, vector-stable, vector-back}
-use Rattle.repairs.specs.Grade.{gradeOf}
+use Rattle.repairs.specs.Grade.{gradeOf, gradeReply}
 use Rattle.repairs.specs.Laws.Bytes.{moved-woman}
 use Rattle.repairs.specs.Laws.RepairBytes.{holds, parts-without, without-parts}
 use Rattle.repairs.specs.Laws.AnswerBytes.{every-fixed, fixed-every}
@@ -71,3 +74,9 @@ module _ {b m : List ℕ} (S : StableIn b m) where
   -- and is the least number that does
   pub grade-least : (g : ℕ) → Covers b m g → gradeOf b m ≤ g
   grade-least g C = supermatch-least (market-proper (S .matching .formed)) (λ i. 1) (vector-stable S) (covers-robust S C)
+
+-- and the reply gives it
+pub grade-is : (b m : List ℕ) → checkMatching b m ≡ fine → (g : ℕ) × (gradeReply b m ≡ gives g) × Covers b m g × ((h : ℕ) → Covers b m h → g ≤ h)
+grade-is b m f =
+    let S = fine-stable b m .0 f in
+    (gradeOf b m, sym (after-fine f refl refl), grade-covers S, grade-least S)
