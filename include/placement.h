@@ -96,8 +96,9 @@ struct placement_reply placement_set_to_matching(const uint8_t *book, size_t boo
 struct placement_reply placement_matching_to_set(const uint8_t *book, size_t book_len, const uint8_t *matching, size_t matching_len,
                                                  uint8_t *out, size_t out_len);
 
-/* The sheet of a book with a matching after it, as the sheet program prints it (also `refused N`), to out.
- * value: bytes written. Refused: 14 only; 715 bytes are always enough. */
+/* The sheet of a book with a matching after it, as the sheet program prints it, to out. value: bytes written.
+ * Refused: 14 only; 715 bytes are always enough. A bad book or matching is no refusal here: number is 0, and the sheet
+ * is the line `refused N`, N being the number of the rule. */
 struct placement_reply placement_sheet(const uint8_t *input, size_t input_len, uint8_t *out, size_t out_len);
 
 #ifdef __cplusplus

@@ -51,12 +51,12 @@ static void table_1_repairs(void)
     }
 }
 
-/* Two by two, both ways; one; a book whose pairs are all fixed. */
+/* Two by two, both ways. */
 static void small(void)
 {
     static const uint8_t straight[2] = {0, 1}, crossed[2] = {1, 0};
     static const int8_t better[2] = {1, 1}, worse[2] = {-1, -1};
-    struct book two = book_of(2, "01101001"), one = book_of(1, "00"), fixed = book_of(2, "01010101");
+    struct book two = book_of(2, "01101001");
     for (uint8_t student = 0; student < 2; student++) {
         EXPECT(repair(two, straight, student), answer('D', 2));
         WROTE(&out, crossed, 2);
@@ -64,15 +64,37 @@ static void small(void)
         EXPECT(repair(two, crossed, student), answer('U', 2));
         WROTE(&out, straight, 2);
         WROTE(&gains, better, 2);
-        EXPECT(repair(fixed, straight, student), answer('F', 0));
-        wrote_neither();
     }
-    EXPECT(repair(one, straight, 0), answer('F', 0));
-    wrote_neither();
-    EXPECT(repair_in(one, straight, 1, straight, 2, 1, 1), refused(11, 0));
-    EXPECT(repair_in(one, straight, 1, (const uint8_t[2]){0, 0}, 2, 0, 1), refused(14, 0));
-    EXPECT(repair_in(one, straight, 1, (const uint8_t[2]){0, 0}, 2, 1, 0), refused(14, 0));
-    wrote_neither();
+    EXPECT(repair_in(book_of(1, "00"), straight, 1, straight, 2, 1, 1), refused(11, 0));
+}
+
+/* "Fixed writes neither matching nor gains, yet both buffers must hold n entries or 14 is given": the pair of a student
+ * with the mentor of the same number, with buffers of each length up to two more than n. */
+static void is_fixed(struct book book, uint8_t student)
+{
+    static const uint8_t same[3] = {0, 1, 2};
+    const uint8_t request[2] = {student, student};
+    for (size_t room = 0; room <= book.n + 2; room++) {
+        for (size_t gains_room = 0; gains_room <= book.n + 2; gains_room++) {
+            int held = room >= book.n && gains_room >= book.n;
+            EXPECT(repair_in(book, same, book.n, request, 2, room, gains_room), held ? answer('F', 0) : refused(14, 0));
+            wrote_neither();
+        }
+    }
+}
+
+/* One pair; two, both fixed; three, of which students 0 and 1 can exchange their mentors and student 2 keeps his. */
+static void fixed_pairs(void)
+{
+    static const uint8_t same[3] = {0, 1, 2}, exchanged[3] = {1, 0, 2};
+    struct book three = book_of(3, "012" "102" "201" "102" "012" "201");
+    is_fixed(book_of(1, "00"), 0);
+    is_fixed(book_of(2, "01010101"), 0);
+    is_fixed(book_of(2, "01010101"), 1);
+    is_fixed(three, 2);
+    EXPECT(repair(three, same, 0), answer('D', 2));
+    WROTE(&out, exchanged, 3);
+    WROTE(&gains, ((const int8_t[3]){-1, -1, 0}), 3);
 }
 
 /* Requests that are refused, in the order 13, 11, 12, 14. */
@@ -179,6 +201,7 @@ void test_repair(void)
 {
     table_1_repairs();
     small();
+    fixed_pairs();
     bad_requests();
     bad_matchings();
     grades();
