@@ -34,6 +34,10 @@ other c = search
 abbrev loaded : tie.After-enum-told → tie.After-load
 loaded c = search
 
+-- from where the list was filled to where the tables were
+abbrev filled : tie.After-number-all → tie.After-load
+filled c = loaded (fine c)
+
 -- the record that was made
 abbrev made : tie.After-load → Record
 made c =
@@ -113,32 +117,32 @@ precedes-with-spec =
     number-all-requires
     (λ c κs. search needs)
     (λ c κs. search needs)
-    (λ c. search needs)
-    (λ c. search needs)
-    (λ c. search needs)
-    (λ c. search needs)
-    (λ c. search needs)
+    (λ c. let n : tie.After-number-all = search in filled n .load .kept .1 .0)
+    (λ c. let n : tie.After-number-all = search in filled n .load .kept .1 .1 .0)
+    (λ c. let n : tie.After-number-all = search in filled n .load .kept .1 .1 .1 .0)
+    (λ c. let n : tie.After-number-all = search in filled n .load .kept .1 .1 .1 .1 .0)
+    (λ c. let n : tie.After-number-all = search in n .number-all .kept .1 .1 .1 .1 .1 .0)
     returns-2
     (λ c κs. search needs)
     (λ c κs. search needs)
-    (λ c. search needs)
-    (λ c. search needs)
-    (λ c. search needs)
-    (λ c. search needs)
-    (λ c. search needs)
+    (λ c. let n : tie.After-number-all = search in filled n .load .kept .1 .0)
+    (λ c. let n : tie.After-number-all = search in filled n .load .kept .1 .1 .0)
+    (λ c. let n : tie.After-number-all = search in filled n .load .kept .1 .1 .1 .0)
+    (λ c. let n : tie.After-number-all = search in filled n .load .kept .1 .1 .1 .1 .0)
+    (λ c. let n : tie.After-number-all = search in n .number-all .kept .1 .1 .1 .1 .1 .0)
     returns-3
     (λ c κs. search needs)
-    (λ c. search needs)
-    (λ c. search needs)
-    (λ c. search needs)
-    (λ c. search needs)
-    (λ c. search needs)
+    (λ c. let e : tie.Else2 = search in filled (numbered e) .load .kept .1 .0)
+    (λ c. let e : tie.Else2 = search in filled (numbered e) .load .kept .1 .1 .0)
+    (λ c. let e : tie.Else2 = search in filled (numbered e) .load .kept .1 .1 .1 .0)
+    (λ c. let e : tie.Else2 = search in filled (numbered e) .load .kept .1 .1 .1 .1 .0)
+    (λ c. let e : tie.Else2 = search in numbered e .number-all .kept .1 .1 .1 .1 .1 .0)
     returns-4
     past-second-requires
     (λ c κs. search needs)
-    (λ c. search needs)
-    (λ c. search needs)
-    (λ c. search needs)
-    (λ c. search needs)
-    (λ c. search needs)
+    (λ c. let e : tie.Else2 = search in filled (numbered e) .load .kept .1 .0)
+    (λ c. let e : tie.Else2 = search in filled (numbered e) .load .kept .1 .1 .0)
+    (λ c. let e : tie.Else2 = search in filled (numbered e) .load .kept .1 .1 .1 .0)
+    (λ c. let e : tie.Else2 = search in filled (numbered e) .load .kept .1 .1 .1 .1 .0)
+    (λ c. let e : tie.Else2 = search in numbered e .number-all .kept .1 .1 .1 .1 .1 .0)
     returns-5)
