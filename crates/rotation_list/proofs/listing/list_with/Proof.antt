@@ -26,6 +26,10 @@ loaded c = search
 abbrev fine : tie.After-number-all → tie.After-enum-told
 fine c = search
 
+-- from where the list was filled to where the tables were
+abbrev filled : tie.After-number-all → tie.After-load
+filled c = loaded (fine c)
+
 -- the record that was made
 abbrev made : tie.After-load → Record
 made c =
@@ -87,17 +91,17 @@ list-with-spec =
     number-all-requires
     (λ c κs. search needs)
     (λ c κs. search needs)
-    (λ c. search needs)
-    (λ c. search needs)
-    (λ c. search needs)
-    (λ c. search needs)
-    (λ c. search needs)
+    (λ c. let n : tie.After-number-all = search in filled n .load .kept .1 .0)
+    (λ c. let n : tie.After-number-all = search in filled n .load .kept .1 .1 .0)
+    (λ c. let n : tie.After-number-all = search in filled n .load .kept .1 .1 .1 .0)
+    (λ c. let n : tie.After-number-all = search in filled n .load .kept .1 .1 .1 .1 .0)
+    (λ c. let n : tie.After-number-all = search in n .number-all .kept .1 .1 .1 .1 .1 .0)
     returns-2
     copy-requires
-    (λ c. search needs)
-    (λ c. search needs)
-    (λ c. search needs)
-    (λ c. search needs)
-    (λ c. search needs)
+    (λ c. let n : tie.After-number-all = search in filled n .load .kept .1 .0)
+    (λ c. let n : tie.After-number-all = search in filled n .load .kept .1 .1 .0)
+    (λ c. let n : tie.After-number-all = search in filled n .load .kept .1 .1 .1 .0)
+    (λ c. let n : tie.After-number-all = search in filled n .load .kept .1 .1 .1 .1 .0)
+    (λ c. let n : tie.After-number-all = search in n .number-all .kept .1 .1 .1 .1 .1 .0)
     (λ c. search needs)
     returns-3)
