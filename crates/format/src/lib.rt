@@ -14,6 +14,7 @@ mod verdict;
 pub use counted::Counted;
 pub use framed::Framed;
 pub use people::Man;
+pub use people::Pair;
 pub use people::Woman;
 pub use record::Instance;
 pub use sizes::LARGEST_INPUT;

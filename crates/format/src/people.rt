@@ -5,3 +5,9 @@ pub struct Man(pub u8);
 
 // A woman, document 01's mentor, by number.
 pub struct Woman(pub u8);
+
+// A man and a woman, together or not.
+pub struct Pair {
+    pub man: Man,
+    pub woman: Woman,
+}

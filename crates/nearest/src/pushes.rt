@@ -5,6 +5,7 @@
 use crate::answer::Letter;
 use crate::answer::Nearest;
 use format::Instance;
+use format::Man;
 use pushing::push_count;
 use tables::list_at;
 use tables::wide;
@@ -64,7 +65,7 @@ pub fn pushed<'a>(
     }
 }
 
-// The nearest repair of the pair of man s: up by a push of his woman on the other side, down by a push of him, which
+// The nearest repair of the pair of man m: up by a push of his woman on the other side, down by a push of him, which
 // gives up where it is no nearer; up where both are as near.
 pub fn nearest<'a>(
     n: usize,
@@ -74,13 +75,14 @@ pub fn nearest<'a>(
     wranks: &'a [u16],
     men: [u16; Instance::LARGEST],
     women: [u16; Instance::LARGEST],
-    s: usize,
+    m: Man,
 ) -> Nearest
     ghost { Record }
     requires { λ R. ⌜ lent n mlists mranks wlists wranks ≡ R ⌝ }
-    requires { λ R. ⌜ Given R men women × (s < n) ⌝ }
-    ensures { λ R r. ⌜ ShowsFor R (vec men) s r ⌝ }
+    requires { λ R. ⌜ Given R men women × (m .0 < n) ⌝ }
+    ensures { λ R r. ⌜ ShowsFor R (vec men) (m .0) r ⌝ }
 {
+    let s = book::wide(m.0);
     let w = list_at(mlists, n, s, wide(men[s]));
     let up = pushed(n, wlists, mlists, mranks, women, men, w, n + 1);
     let above = up.far;

@@ -1,9 +1,12 @@
 // Repair of a pair: the request's rules, the nearest repair, and the two result buffers.
-use book::entry_in;
 use book::is_small;
+use book::pair_in;
 use book::refuse;
+use book::wide;
+use book::woman_of;
 use format::Checked;
 use format::Instance;
+use format::Pair;
 use nearest::nearest;
 use record::load;
 use repairs::Answer;
@@ -126,13 +129,17 @@ fn repair_in<'a>(
     let Checked::Fine = checked else {
         return refused(checked);
     };
+    if request.len() != 2 {
+        return refused(refuse(13, 0));
+    }
+    let pair = pair_in(request);
     let room = out.len();
     let gains_room = gains.len();
-    let asked = check_pair(n, matching, request, room, gains_room);
+    let asked = check_pair(n, matching, pair, room, gains_room);
     let Checked::Fine = asked else {
         return refused(asked);
     };
-    let asking = entry_in(request, 0);
+    let asking = pair.man;
     let places = judged.places;
     let men = places.men;
     let women = places.women;
@@ -150,23 +157,21 @@ fn refused(checked: Checked) -> Answer
     }
 }
 
-// Rules 13, 11, 12 and 14 of a request, for a matching of n men.
-fn check_pair(n: usize, matching: &[u8], request: &[u8], room: usize, gains_room: usize) -> Checked
+// Rules 11, 12 and 14 of a pair, for a matching of n men.
+fn check_pair(n: usize, matching: &[u8], pair: Pair, room: usize, gains_room: usize) -> Checked
     requires { ⌜ n ≤ length (now matching) ⌝ }
-    ensures { λ r. ⌜ verdictOf r ≡ checkPair n (now₀ matching) (now₀ request) room «gains_room» ⌝ }
+    ensures { λ r. ⌜ verdictOf r ≡ checkPair n (now₀ matching) (pair .man .0) (pair .woman .0) room «gains_room» ⌝ }
 {
-    if request.len() != 2 {
-        return refuse(13, 0);
-    }
-    let s = entry_in(request, 0);
-    let w = entry_in(request, 1);
-    if n <= s {
+    let man = pair.man;
+    let woman = pair.woman;
+    if n <= wide(man.0) {
         return refuse(11, 0);
     }
-    if n <= w {
+    if n <= wide(woman.0) {
         return refuse(11, 0);
     }
-    if entry_in(matching, s) != w {
+    let his = woman_of(matching, man);
+    if his.0 != woman.0 {
         return refuse(12, 0);
     }
     if room < n {

@@ -17,15 +17,19 @@ askingMan q = entryIn q 0
 abbrev pub askingWoman : List ℕ → ℕ
 askingWoman q = entryIn q 1
 
--- The rules that follow those on the matching m of n students. The matching goes to a buffer of `room` bytes, the
--- places gained to one of `gainsRoom` entries
-unfoldable pub checkPair : ℕ → List ℕ → List ℕ → ℕ → ℕ → Verdict
-checkPair n m q room gainsRoom =
-    rule (not (eqb (length q) 2)) 13 0
-    (rule (either (leb n (askingMan q)) (leb n (askingWoman q))) 11 0
-    (rule (not (eqb (womanOf m (askingMan q)) (askingWoman q))) 12 0
-    (rule (either (ltb room n) (ltb gainsRoom n)) 14 0 fine)))
+-- The rules 11, 12 and 14 of student s and mentor w, for a matching m of n students. The matching goes to a buffer of
+-- `room` bytes, the places gained to one of `gainsRoom` entries
+unfoldable pub checkPair : ℕ → List ℕ → (s w room gainsRoom : ℕ) → Verdict
+checkPair n m s w room gainsRoom =
+    rule (either (leb n s) (leb n w)) 11 0
+    (rule (not (eqb (womanOf m s) w)) 12 0
+    (rule (either (ltb room n) (ltb gainsRoom n)) 14 0 fine))
+
+-- The rules that follow those on the matching: 13, and then those of the two whom the request names
+unfoldable pub checkAsked : ℕ → List ℕ → List ℕ → ℕ → ℕ → Verdict
+checkAsked n m q room gainsRoom =
+    rule (not (eqb (length q) 2)) 13 0 (checkPair n m (askingMan q) (askingWoman q) room gainsRoom)
 
 -- The verdict on a request
 abbrev pub checkRequest : List ℕ → List ℕ → List ℕ → ℕ → ℕ → Verdict
-checkRequest b m q room gainsRoom = andThen (checkMatching b m) (checkPair (people b) m q room gainsRoom)
+checkRequest b m q room gainsRoom = andThen (checkMatching b m) (checkAsked (people b) m q room gainsRoom)

@@ -13,6 +13,8 @@ use Rattle.tables.specs.Lists.{lenIn, atIn, Stored}
 use Rattle.format.specs.Record.{Record}
 use Rattle.format.specs.Verdict.{Verdict, fine, refused}
 use Rattle.instances.specs.Usable.{Usable}
+use Rattle.stability.specs.declared.blocking.Blocking.{Blocking}
+use Rattle.stability.specs.declared.blocking.Blocking.the-variants.{Pair, Nobody}
 
 -- The woman at place k of man i's list ranks him above her own man
 unfoldable pub willing : ℕ → (mlists wranks women : List ℕ) → ℕ → ℕ → Bool
@@ -31,6 +33,11 @@ unfoldable pub checkTables : ℕ → (mlists wranks men women : List ℕ) → Ve
 checkTables n mlists wranks men women =
     let i = lowestWilling n mlists wranks men women in
     pick (ltb i n) (refused 10 i (atIn n mlists i (first (willing n mlists wranks women i) (vec men i)))) fine
+
+-- The verdict on what the search found
+abbrev pub blockingVerdict : Blocking → Verdict
+blockingVerdict (Pair p) = refused 10 (p .man .0) (p .woman .0)
+blockingVerdict Nobody = fine
 
 -- What the search asks: lists that name women, and room for n rows of ranks and n places
 pub record Searchable (n : ℕ) (mlists wranks women : List ℕ) : Type 0 where

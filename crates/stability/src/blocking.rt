@@ -1,7 +1,10 @@
 // The search for a blocking pair, over the men's lists and the women's ranks: for man i only the women before his own
 // place can block, and a woman does where she ranks him above her own man. It reads the places before the men's own, so
 // where the women's places have the lower sum it is made first on the exchanged tables.
+use book::man_numbered;
+use book::woman_numbered;
 use format::Checked;
+use format::Pair;
 use format::Refusal;
 use tables::entry;
 use tables::list_at;
@@ -15,9 +18,15 @@ ghost use Rattle.laws.specs.Moment.{now₀, vec₀};
 ghost use Rattle.laws.specs.Sum.{sum};
 ghost use Rattle.format.specs.Format.{largest};
 ghost use Rattle.format.specs.Record.{Record, lent};
-ghost use Rattle.format.specs.Verdict.{verdictOf};
+ghost use Rattle.format.specs.Verdict.{refused, verdictOf};
 ghost use Rattle.tables.specs.Lists.{lenIn};
-ghost use Rattle.stability.specs.Blocking.{willing, lowestWilling, checkTables, Searchable, OnLists, Checkable};
+ghost use Rattle.stability.specs.Blocking.{willing, lowestWilling, blockingVerdict, checkTables, Searchable, OnLists, Checkable};
+
+// A pair that blocks, or that none does.
+enum Blocking {
+    Pair(Pair),
+    Nobody,
+}
 
 // The first of the places before `end` on man i's list at which a woman ranks him above her own man, or `end`.
 fn first_willing(
@@ -96,7 +105,50 @@ fn none_from_women<'a>(
     lowest_willing(n, wlists, mranks, women, men) == n
 }
 
-// Rule 10: the lowest man with such a woman, and the first such woman on his list.
+// The lowest man with such a woman, and the first such woman on his list.
+fn blocking_pair<'a>(
+    n: usize,
+    mlists: &[u16],
+    mranks: &[u16],
+    wlists: &[u16],
+    wranks: &[u16],
+    men: &'a [u16],
+    women: &'a [u16],
+) -> Blocking
+    ghost { Record }
+    requires { λ R. ⌜ lent n mlists mranks wlists wranks ≡ R ⌝ }
+    requires { λ R. ⌜ Checkable R (now men) (now women) ⌝ }
+    ensures { λ _ r. ⌜ blockingVerdict r ≡ checkTables n (now₀ mlists) (now₀ wranks) (now₀ men) (now₀ women) ⌝ }
+{
+    if none_from_women(n, mlists, mranks, wlists, wranks, men, women) {
+        return Blocking::Nobody;
+    }
+    let i = lowest_willing(n, mlists, wranks, men, women);
+    if n <= i {
+        return Blocking::Nobody;
+    }
+    let end = wide(men[i]);
+    let stop = first_willing(n, mlists, wranks, women, i, end);
+    let w = list_at(mlists, n, i, stop);
+    let man = man_numbered(i);
+    let woman = woman_numbered(w);
+    Blocking::Pair(Pair { man, woman })
+}
+
+// The refusal by rule 10, which gives the pair.
+fn unstable(pair: Pair) -> Checked
+    ensures { λ r. ⌜ verdictOf r ≡ refused 10 (pair .man .0) (pair .woman .0) ⌝ }
+{
+    let man = pair.man;
+    let woman = pair.woman;
+    Checked::Refused(Refusal {
+        number: 10,
+        place: book::wide(man.0),
+        second: book::wide(woman.0),
+    })
+}
+
+// Rule 10: no pair blocks, or the lowest man of one and his first woman of one are given.
 pub(crate) fn check_stable<'a>(
     n: usize,
     mlists: &[u16],
@@ -111,19 +163,9 @@ pub(crate) fn check_stable<'a>(
     requires { λ R. ⌜ Checkable R (now men) (now women) ⌝ }
     ensures { λ _ r. ⌜ verdictOf r ≡ checkTables n (now₀ mlists) (now₀ wranks) (now₀ men) (now₀ women) ⌝ }
 {
-    if none_from_women(n, mlists, mranks, wlists, wranks, men, women) {
-        return Checked::Fine;
+    let blocking = blocking_pair(n, mlists, mranks, wlists, wranks, men, women);
+    match blocking {
+        Blocking::Pair(pair) => unstable(pair),
+        Blocking::Nobody => Checked::Fine,
     }
-    let i = lowest_willing(n, mlists, wranks, men, women);
-    if n <= i {
-        return Checked::Fine;
-    }
-    let end = wide(men[i]);
-    let stop = first_willing(n, mlists, wranks, women, i, end);
-    let w = list_at(mlists, n, i, stop);
-    Checked::Refused(Refusal {
-        number: 10,
-        place: i,
-        second: w,
-    })
 }

@@ -1,5 +1,7 @@
 // The places of a matching, read from the ranks of both sides.
-use book::entry_in;
+use book::man_numbered;
+use book::wide;
+use book::woman_of;
 use format::Instance;
 use matchings::Places;
 use tables::entry;
@@ -15,7 +17,8 @@ pub(crate) fn places_of(n: usize, mranks: &[u16], wranks: &[u16], matching: &[u8
     let mut women = [0u16; Instance::LARGEST];
     let mut i = 0;
     while i < n {
-        let w = entry_in(matching, i);
+        let woman = woman_of(matching, man_numbered(i));
+        let w = wide(woman.0);
         men[i] = entry(mranks, n, i, w) as u16;
         women[w] = entry(wranks, n, w, i) as u16;
         i += 1;

@@ -24,7 +24,7 @@ use Rattle.extremes.specs.Places.{MatchingWritable, womenAt}
 use Rattle.extremes.specs.Laws.ExtremeBytes.{places-writable}
 use Rattle.repairs.specs.declared.answer.Answer.{Answer}
 use Rattle.repairs.specs.Repair.{fixed, answerFor, repairOutcome}
-use Rattle.repairs.specs.Request.{askingMan, checkPair, checkRequest}
+use Rattle.repairs.specs.Request.{askingMan, checkAsked, checkRequest}
 use Rattle.repairs.specs.Laws.RepairBytes.{holds}
 use Rattle.nearest.specs.declared.answer.Nearest.{Nearest}
 use Rattle.nearest.specs.Nearest.{Shows, ShowsFor}
@@ -48,7 +48,7 @@ module _ {b m q out : List ℕ} {gains : List ℤ} where
   pub matching-refused : {r : Answer} {v : Verdict} {number place second : ℕ} → v ≡ checkMatching b m →
       v ≡ refused number place second → repairOutcome r ≡ after v fixed → Repaired b m q out gains r out gains
   matching-refused w e f =
-      let c = ap (λ (v : Verdict). andThen v (checkPair (people b) m q (length out) (length gains))) (sym w ∙ e) in
+      let c = ap (λ (v : Verdict). andThen v (checkAsked (people b) m q (length out) (length gains))) (sym w ∙ e) in
       repaired-refused (c ∙ sym e) e f
 
 module _ {b m : List ℕ} {R : Record} {j : Judged} (J : BookJudged b m R j) (f : checkMatching b m ≡ fine) where
@@ -62,13 +62,13 @@ module _ {b m : List ℕ} {R : Record} {j : Judged} (J : BookJudged b m R j) (f 
       }
 
   -- where the matching is not refused the rules of the request follow
-  follows : (q : List ℕ) (room gainsRoom : ℕ) → checkRequest b m q room gainsRoom ≡ checkPair (R .n) m q room gainsRoom
+  follows : (q : List ℕ) (room gainsRoom : ℕ) → checkRequest b m q room gainsRoom ≡ checkAsked (R .n) m q room gainsRoom
   follows q room gainsRoom =
-      goes-on (checkMatching b m) (checkPair (people b) m q room gainsRoom) f
-      ∙ ap (λ (n : ℕ). checkPair n m q room gainsRoom) (sym (judged-number J f))
+      goes-on (checkMatching b m) (checkAsked (people b) m q room gainsRoom) f
+      ∙ ap (λ (n : ℕ). checkAsked n m q room gainsRoom) (sym (judged-number J f))
 
   pub request-refused : {q out : List ℕ} {gains : List ℤ} {r : Answer} {v : Verdict} {number place second : ℕ} →
-      v ≡ checkPair (R .n) m q (length out) (length gains) →
+      v ≡ checkAsked (R .n) m q (length out) (length gains) →
       v ≡ refused number place second → repairOutcome r ≡ after v fixed → Repaired b m q out gains r out gains
   request-refused {q} {out} {gains} w e g = repaired-refused (follows q (length out) (length gains) ∙ sym w) e g
 
@@ -89,7 +89,7 @@ module _ {b m : List ℕ} {R : Record} {j : Judged} (J : BookJudged b m R j) (f 
         places-writable (judged-usable J f) P (λ i u. refl) (omega (arith, S .long, judged-given J f .few)) h
 
     -- and is what is returned
-    pub returns-found : {q out : List ℕ} {gains : List ℤ} → s ≡ askingMan q → checkPair (R .n) m q (length out) (length gains) ≡ fine →
+    pub returns-found : {q out : List ℕ} {gains : List ℤ} → s ≡ askingMan q → checkAsked (R .n) m q (length out) (length gains) ≡ fine →
         {a : Answer} {out′ : List ℕ} {gains′ : List ℤ} → repairOutcome a ≡ gives (shownAnswer (r .letter) (r .distance)) →
         out′ ≡ shownIn (r .letter) (R .n) (womenAt (R .n) (R .mlists) (vec (r .men))) out →
         gains′ ≡ shownIn (r .letter) (R .n) (gainsAt (R .n) (vec (j .places .men)) (vec (r .men))) gains →

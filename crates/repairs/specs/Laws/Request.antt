@@ -6,20 +6,31 @@ use mathlib.Core.List.{List}
 use mathlib.Core.Bool.{not}
 use lib.ListN.{length}
 use lib.Dec.{leb, ltb, eqb}
-use borrow.Author.Tests.{lt-leb, eq-eqb, le-ltb, leb-false, ltb-false, eqb-true, not-false}
+use borrow.Author.Tests.{lt-leb, eq-eqb, ne-eqb, le-ltb, leb-false, ltb-false, eqb-true, not-false}
 use Rattle.laws.specs.Choice.{either, either-none}
-use Rattle.format.specs.Verdict.{fine, rule}
+use Rattle.format.specs.Verdict.{fine, broken, rule}
 use Rattle.format.specs.Laws.Verdict.{rule-fine}
 use Rattle.format.specs.Format.{pairRow}
 use Rattle.format.specs.Laws.Rows.{pair-first, pair-second, pair-long}
 use Rattle.matchings.specs.Matching.{womanOf}
-use Rattle.repairs.specs.Request.{askingMan, askingWoman, checkPair}
+use Rattle.repairs.specs.Request.{askingMan, askingWoman, checkPair, checkAsked}
 
 -- student s and his mentor, with room
-pub pair-fine : (n : ℕ) (m : List ℕ) (s room gainsRoom : ℕ) → s < n → womanOf m s < n → n ≤ room → n ≤ gainsRoom → checkPair n m (pairRow s (womanOf m s)) room gainsRoom ≡ fine
-unfolding checkPair
+pub pair-fine : (n : ℕ) (m : List ℕ) (s room gainsRoom : ℕ) → s < n → womanOf m s < n → n ≤ room → n ≤ gainsRoom → checkAsked n m (pairRow s (womanOf m s)) room gainsRoom ≡ fine
+unfolding checkAsked checkPair
 pair-fine n m s room gainsRoom u v h k =
     rw (pair-long, pair-first, pair-second, lt-leb n s u, lt-leb n (womanOf m s) v, eq-eqb (womanOf m s) (womanOf m s) refl, le-ltb room n h, le-ltb gainsRoom n k)
+
+module _ (n : ℕ) (m q : List ℕ) (room gainsRoom : ℕ) where
+  -- a request that is not two entries is refused by 13
+  pub asked-13 : (length q ≡ 2 → ⊥) → checkAsked n m q room gainsRoom ≡ broken 13 0
+  unfolding checkAsked
+  asked-13 h = rw (ne-eqb (length q) 2 h)
+
+  -- one of two is the pair that it names
+  pub asked-pair : length q ≡ 2 → {s w : ℕ} → s ≡ askingMan q → w ≡ askingWoman q → checkAsked n m q room gainsRoom ≡ checkPair n m s w room gainsRoom
+  unfolding checkAsked
+  asked-pair h x y = rw (eq-eqb (length q) 2 h, x, y)
 
 -- What is known of a request that is not refused
 pub record Asked (n : ℕ) (q : List ℕ) (room gainsRoom : ℕ) : Type 0 where
@@ -28,8 +39,8 @@ pub record Asked (n : ℕ) (q : List ℕ) (room gainsRoom : ℕ) : Type 0 where
   pub room-fits : n ≤ room
   pub gains-fit : n ≤ gainsRoom
 
-pub asked : (n : ℕ) (m q : List ℕ) (room gainsRoom : ℕ) → checkPair n m q room gainsRoom ≡ fine → Asked n q room gainsRoom
-unfolding checkPair
+pub asked : (n : ℕ) (m q : List ℕ) (room gainsRoom : ℕ) → checkAsked n m q room gainsRoom ≡ fine → Asked n q room gainsRoom
+unfolding checkAsked checkPair
 asked n m q room gainsRoom e =
     let short = either (ltb room n) (ltb gainsRoom n) in
     let apart = not (eqb (womanOf m (askingMan q)) (askingWoman q)) in

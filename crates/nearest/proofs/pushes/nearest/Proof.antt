@@ -1,5 +1,6 @@
--- `nearest` meets its contract: `w` is the woman of man s, the two pushes say how near the repairs up and down are, and
--- each return gives the answer of its case. Assumes nothing.
+-- `nearest` meets its contract: s is the number of man m and w that of his woman, the two pushes say how near the repairs
+-- up and down are, and each return gives the answer of its case. Assumes nothing.
+use Prim.Native.Nat.{_<_}
 use mathlib.Core.Path.{_≡_, refl}
 use lib.ListN.{length}
 use Rattle.format.specs.Format.{largest}
@@ -13,7 +14,10 @@ use Rattle.nearest.proofs.pushes.nearest.Tie as tie
 abbrev start : tie.After-wide → tie.Start
 start c = search
 
-abbrev place : tie.After-list-at → tie.After-wide
+abbrev man : tie.After-wide2 → tie.After-wide
+man c = search
+
+abbrev place : tie.After-list-at → tie.After-wide2
 place c = search
 
 abbrev woman : tie.After-pushed → tie.After-list-at
@@ -21,6 +25,10 @@ woman c = search
 
 abbrev up : tie.After-pushed2 → tie.After-pushed
 up c = search
+
+-- the number is one of a man
+numbered : (c : tie.After-wide) → c .wide .result < start c .args .n
+numbered c = omega (arith, c .wide .ensures .0, start c .pre .1)
 
 -- a push leaves arrays
 long-up : (c : tie.After-pushed) → length (c .pushed .result .receivers) ≡ largest
@@ -30,50 +38,56 @@ long-down : (c : tie.After-pushed2) → length (c .pushed2 .result .proposers) �
 long-down c = search needs
 
 list-at-requires : tie.Need-list-at-requires
-list-at-requires c κs = let s = start c in place-index (s .pre .0) (s .pre .1) (c .wide .ensures .0)
+list-at-requires c κs = let m = man c in place-index (start m .pre .0) (numbered m) (c .wide2 .ensures .0)
 
 pushed-requires : tie.Need-pushed-requires
 pushed-requires c κs =
-    let s = start (place c) in
+    let m = man (place c) in
+    let s = start m in
     let G = s .pre .0 in
-    ((G .by-women, omega (arith, G .few, s .good)), women-pushable G (s .pre .1) (place c .wide .ensures .0) (c .list-at .ensures .0))
+    ((G .by-women, omega (arith, G .few, s .good)), women-pushable G (numbered m) (place c .wide2 .ensures .0) (c .list-at .ensures .0))
 
 pushed-requires-2 : tie.Need-pushed-requires-2
 pushed-requires-2 c κs =
-    let s = start (place (woman c)) in
+    let m = man (place (woman c)) in
+    let s = start m in
     let G = s .pre .0 in
-    ((G .by-men, omega (arith, G .few, s .good)), men-pushable G (s .pre .1))
+    ((G .by-men, omega (arith, G .few, s .good)), men-pushable G (numbered m))
 
 returns : tie.Need-returns
 returns c =
     let d : tie.After-pushed2 = search in
     let w = woman (up d) in
-    let s = start (place w) in
-    says-down (s .pre .0) (s .pre .1) (place w .wide .ensures .0) (w .list-at .ensures .0) (up d .pushed .ensures) (d .pushed2 .ensures)
-    (λ i v. refl) (long-down d) (c .before .if1 .taken)
+    let m = man (place w) in
+    rw (← m .wide .ensures .0)
+    (says-down (start m .pre .0) (numbered m) (place w .wide2 .ensures .0) (w .list-at .ensures .0) (up d .pushed .ensures) (d .pushed2 .ensures)
+    (λ i v. refl) (long-down d) (c .before .if1 .taken))
 
 returns-2 : tie.Need-returns-2
 returns-2 c =
     let d : tie.After-pushed2 = search in
     let w = woman (up d) in
-    let s = start (place w) in
-    says-fixed (s .pre .0) (s .pre .1) (place w .wide .ensures .0) (w .list-at .ensures .0) (up d .pushed .ensures) (d .pushed2 .ensures)
-    (omega (arith, s .good)) (c .before .if1 .left) (c .if2 .taken)
+    let m = man (place w) in
+    rw (← m .wide .ensures .0)
+    (says-fixed (start m .pre .0) (numbered m) (place w .wide2 .ensures .0) (w .list-at .ensures .0) (up d .pushed .ensures) (d .pushed2 .ensures)
+    (omega (arith, start m .good)) (c .before .if1 .left) (c .if2 .taken))
 
 returns-3 : tie.Need-returns-3
 returns-3 c =
     let d : tie.After-pushed2 = search in
     let w = woman (up d) in
-    let s = start (place w) in
-    says-up (s .pre .0) (s .pre .1) (place w .wide .ensures .0) (w .list-at .ensures .0) (up d .pushed .ensures) (d .pushed2 .ensures)
-    (λ i v. refl) (long-up (up d)) (c .before .before .if1 .left) (c .before .if2 .left)
+    let m = man (place w) in
+    rw (← m .wide .ensures .0)
+    (says-up (start m .pre .0) (numbered m) (place w .wide2 .ensures .0) (w .list-at .ensures .0) (up d .pushed .ensures) (d .pushed2 .ensures)
+    (λ i v. refl) (long-up (up d)) (c .before .before .if1 .left) (c .before .if2 .left))
 
 pub nearest-spec : {M : Type 1} → statement M
 nearest-spec =
     tie.close
     (tie.spec
+    (λ c κs. search needs)
     (λ c. search needs)
-    (λ c. search needs)
+    (λ c. omega (arith, numbered c, start c .pre .0 .few))
     (λ c κs. search needs)
     list-at-requires
     (λ c. search needs)

@@ -1,7 +1,9 @@
--- `check_pair` meets its contract: `two` says what is left to try of a request of two entries, `together` of a pair of
--- the matching, and each return rewrites with the tests that led there. Assumes nothing.
+-- `check_pair` meets its contract: `known` says what is left to try of a man and a woman with numbers below n, `together`
+-- of a pair of the matching, and each return rewrites with the tests that led there. Assumes nothing.
+use Prim.Native.Nat.{_<_}
 use mathlib.Core.Path.{_≡_}
 use mathlib.Core.Bool.{not}
+use native.Mathlib.Omega.{arith}
 use lib.Dec.{ltb, leb, eqb}
 use denote.Ref.{now}
 use borrow.Author.Needs.{needs}
@@ -13,86 +15,95 @@ use Rattle.repairs.specs.Request.{checkPair}
 use Rattle.repair.proofs.pair.check_pair.Statement.{statement}
 use Rattle.repair.proofs.pair.check_pair.Tie as tie
 
-abbrev start : tie.After-entry-in2 → tie.Start
+abbrev start : tie.After-wide → tie.Start
 start c = search
 
-abbrev read : tie.Else4 → tie.After-entry-in2
-read c = search
+abbrev man : tie.Else1 → tie.After-wide
+man c = search
 
--- the verdict on the request, and its last rule
+abbrev below : tie.Else2 → tie.Else1
+below c = search
+
+abbrev his : tie.Else3 → tie.After-woman-of
+his c = search
+
+abbrev apart : tie.After-woman-of → tie.Else2
+apart c = search
+
+-- the verdict on the pair, and its last rule
 abbrev verdict : tie.Start → Verdict
-verdict s = checkPair (s .args .n) (now (s .args .matching)) (now (s .args .request)) (s .args .room) (s .args .gains-room)
+verdict s =
+    let a = s .args in
+    checkPair (a .n) (now (a .matching)) (a .pair .man .0) (a .pair .woman .0) (a .room) (a .gains-room)
 
 abbrev room : tie.Start → Verdict
 room s = rule (either (ltb (s .args .room) (s .args .n)) (ltb (s .args .gains-room) (s .args .n))) 14 0 fine
 
-two :
-    (c : tie.After-entry-in2) →
-    let s = start c in
-    let n = s .args .n in
-    let asking = c .before .entry-in .result in
-    let woman = c .entry-in2 .result in
-    verdict s
-    ≡ rule (either (leb n asking) (leb n woman)) 11 0 (rule (not (eqb (womanOf (now (s .args .matching)) asking) woman)) 12 0 (room s))
-unfolding checkPair
-two c =
-    let e : tie.Else1 = search in
-    rw (eq-eqb _ 2 (e .if1 .left), ← c .before .entry-in .ensures .0, ← c .entry-in2 .ensures .0)
+-- both have numbers below n
+man-lt : (c : tie.Else1) → let a = start (man c) .args in a .pair .man .0 < a .n
+man-lt c = omega (arith, man c .wide .ensures .0, c .if1 .left)
 
-together : (c : tie.Else4) → verdict (start (read c)) ≡ room (start (read c))
-together c =
-    let e : tie.Else3 = search in
-    let k = e .before .if2 .left in
-    rw (two (read c), lt-leb _ _ k, lt-leb _ _ (e .if3 .left), ← c .before .entry-in3 .ensures .0, eq-eqb _ _ (c .if4 .left))
+woman-lt : (c : tie.Else2) → let a = start (man (below c)) .args in a .pair .woman .0 < a .n
+woman-lt c = let w : tie.After-wide2 = search in omega (arith, w .wide2 .ensures .0, c .if2 .left)
+
+known :
+    (c : tie.Else2) →
+    let s = start (man (below c)) in
+    let a = s .args in
+    verdict s ≡ rule (not (eqb (womanOf (now (a .matching)) (a .pair .man .0)) (a .pair .woman .0))) 12 0 (room s)
+unfolding checkPair
+known c = rw (lt-leb _ _ (man-lt (below c)), lt-leb _ _ (woman-lt c))
+
+together : (c : tie.Else3) → let s = start (man (below (apart (his c)))) in verdict s ≡ room s
+together c = rw (known (apart (his c)), ← his c .woman-of .ensures, eq-eqb _ _ (c .if3 .left))
 
 returns : tie.Need-returns
 unfolding checkPair
-returns c = rw (ne-eqb _ 2 (c .before .if1 .taken)) (c .refuse .ensures)
+returns c =
+    let w : tie.After-wide = search in
+    let t : tie.Then1 = search in
+    rw (← w .wide .ensures .0, le-leb _ _ (t .if1 .taken)) (c .refuse .ensures)
 
 returns-2 : tie.Need-returns-2
-returns-2 c = let w : tie.After-entry-in2 = search in rw (two w, le-leb _ _ (c .before .if2 .taken)) (c .refuse2 .ensures)
+unfolding checkPair
+returns-2 c =
+    let w : tie.After-wide2 = search in
+    let e : tie.Else1 = search in
+    let t : tie.Then2 = search in
+    rw (lt-leb _ _ (man-lt e), ← w .wide2 .ensures .0, le-leb _ _ (t .if2 .taken)) (c .refuse2 .ensures)
 
 returns-3 : tie.Need-returns-3
 returns-3 c =
-    let w : tie.After-entry-in2 = search in
-    rw (two w, lt-leb _ _ (c .before .before .if2 .left), le-leb _ _ (c .before .if3 .taken)) (c .refuse3 .ensures)
+    let h : tie.After-woman-of = search in
+    let t : tie.Then3 = search in
+    rw (known (apart h), ← h .woman-of .ensures, ne-eqb _ _ (t .if3 .taken)) (c .refuse3 .ensures)
 
 returns-4 : tie.Need-returns-4
-returns-4 c =
-    let w : tie.After-entry-in2 = search in
-    let e : tie.Else3 = search in
-    let k = e .before .if2 .left in
-    let h = c .before .if4 .taken in
-    rw (two w, lt-leb _ _ k, lt-leb _ _ (e .if3 .left), ← c .before .before .entry-in3 .ensures .0, ne-eqb _ _ h) (c .refuse4 .ensures)
+returns-4 c = let e : tie.Else3 = search in rw (together e, lt-ltb _ _ (c .before .if4 .taken)) (c .refuse4 .ensures)
 
 returns-5 : tie.Need-returns-5
-returns-5 c = let e : tie.Else4 = search in rw (together e, lt-ltb _ _ (c .before .if5 .taken)) (c .refuse5 .ensures)
+returns-5 c =
+    let e : tie.Else3 = search in
+    rw (together e, le-ltb _ _ (c .before .before .if4 .left), lt-ltb _ _ (c .before .if5 .taken)) (c .refuse5 .ensures)
 
 returns-6 : tie.Need-returns-6
-returns-6 c =
-    let e : tie.Else4 = search in
-    rw (together e, le-ltb _ _ (c .before .before .if5 .left), lt-ltb _ _ (c .before .if6 .taken)) (c .refuse6 .ensures)
-
-returns-7 : tie.Need-returns-7
-returns-7 c = let e : tie.Else4 = search in rw (together e, le-ltb _ _ (c .before .if5 .left), le-ltb _ _ (c .if6 .left))
+returns-6 c = let e : tie.Else3 = search in rw (together e, le-ltb _ _ (c .before .if4 .left), le-ltb _ _ (c .if5 .left))
 
 pub check-pair-spec : {M : Type 1} → statement M
 check-pair-spec =
     tie.close
     (tie.spec
     (λ c κs. search needs)
+    (λ c κs. search needs)
     returns
     (λ c κs. search needs)
     (λ c κs. search needs)
-    (λ c κs. search needs)
     returns-2
+    (λ c κs. let e : tie.Else1 = search in let s : tie.Start = search in omega (arith, man-lt e, s .pre))
     (λ c κs. search needs)
     returns-3
-    (λ c κs. search needs)
     (λ c κs. search needs)
     returns-4
     (λ c κs. search needs)
     returns-5
-    (λ c κs. search needs)
-    returns-6
-    returns-7)
+    returns-6)

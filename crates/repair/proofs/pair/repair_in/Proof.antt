@@ -1,6 +1,6 @@
--- `repair_in` meets its contract: a refusal of the matching, a refusal of the request, and the answer. `judged` says
--- what the check made of a book and the matching, `passed` that the matching is stable, `admitted` that the request is
--- not refused. Assumes nothing.
+-- `repair_in` meets its contract: a refusal of the matching, of the request or of its pair, and the answer. `judged` says
+-- what the check made of a book and the matching, `passed` that the matching is stable, `named` that the rules of the
+-- request are those of the pair, `admitted` that it is not refused. Assumes nothing.
 use Prim.Native.Nat.{_<_}
 use mathlib.Core.Path.{_≡_, sym, _∙_, ap}
 use native.Mathlib.Omega.{arith}
@@ -12,8 +12,8 @@ use Rattle.format.specs.Record.{Record, lent}
 use Rattle.matchings.specs.Matching.{checkMatching}
 use Rattle.stability.specs.Judge.{EachBook}
 use Rattle.stability.specs.Laws.Judged.{BookJudged, book-judged}
-use Rattle.repairs.specs.Request.{checkPair}
-use Rattle.repairs.specs.Laws.Request.{Asked, asked}
+use Rattle.repairs.specs.Request.{checkPair, checkAsked}
+use Rattle.repairs.specs.Laws.Request.{Asked, asked, asked-13, asked-pair}
 use Rattle.nearest.specs.Laws.Book.{judged-given, judged-long}
 use Rattle.repair.specs.Laws.Returns.{matching-refused, request-refused, given-small, found-writable, returns-found}
 use Rattle.repair.proofs.pair.repair_in.Statement.{statement}
@@ -26,13 +26,16 @@ start c = search
 abbrev stable : tie.After-enum-told → tie.After-judge
 stable c = search
 
-abbrev paired : tie.After-enum-told3 → tie.After-enum-told
+abbrev paired : tie.After-pair-in → tie.After-enum-told
 paired c = search
 
-abbrev asking : tie.After-entry-in → tie.After-enum-told3
+abbrev two : tie.After-pair-in → tie.Else1
+two c = search
+
+abbrev asking : tie.After-enum-told3 → tie.After-pair-in
 asking c = search
 
-abbrev found : tie.After-nearest → tie.After-entry-in
+abbrev found : tie.After-nearest → tie.After-enum-told3
 found c = search
 
 -- the record
@@ -51,25 +54,43 @@ passed :
     EachBook (s .args .answer) (made s) (λ b. checkMatching b (now (s .args .matching)) ≡ fine)
 passed c b B = sym (judged (stable c) b B .judged .checked) ∙ ap verdictOf (c .enum-told .given .1)
 
+named :
+    (c : tie.After-pair-in) →
+    let a = start (stable (paired c)) .args in
+    let p = c .pair-in .result in
+    checkAsked (a .n) (now (a .matching)) (now (a .request)) (length (now (a .out))) (length (now (a .gains)))
+    ≡ checkPair (a .n) (now (a .matching)) (p .man .0) (p .woman .0) (length (now (a .out))) (length (now (a .gains)))
+named c = asked-pair _ _ _ _ _ (two c .if1 .left) (c .pair-in .ensures .0) (c .pair-in .ensures .1)
+
 admitted :
     (c : tie.After-enum-told3) →
-    let a = start (stable (paired c)) .args in
-    checkPair (a .n) (now (a .matching)) (now (a .request)) (length (now (a .out))) (length (now (a .gains))) ≡ fine
-admitted c = let p : tie.After-check-pair = search in sym (p .check-pair .ensures) ∙ ap verdictOf (c .enum-told3 .given .1)
+    let a = start (stable (paired (asking c))) .args in
+    checkAsked (a .n) (now (a .matching)) (now (a .request)) (length (now (a .out))) (length (now (a .gains))) ≡ fine
+admitted c =
+    let p : tie.After-check-pair = search in
+    named (asking c) ∙ sym (p .check-pair .ensures) ∙ ap verdictOf (c .enum-told3 .given .1)
 
 asks :
     (c : tie.After-enum-told3) →
-    let a = start (stable (paired c)) .args in
+    let a = start (stable (paired (asking c))) .args in
     Asked (a .n) (now (a .request)) (length (now (a .out))) (length (now (a .gains)))
 asks c = asked _ _ _ _ _ (admitted c)
 
-student : (c : tie.After-entry-in) → c .entry-in .result < start (stable (paired (asking c))) .args .n
-student c = omega (arith, c .entry-in .ensures .0, asks (asking c) .student)
+student : (c : tie.After-enum-told3) → asking c .pair-in .result .man .0 < start (stable (paired (asking c))) .args .n
+student c = omega (arith, asking c .pair-in .ensures .0, asks c .student)
 
 returns : tie.Need-returns
 returns c =
     let d : tie.After-judge = search in
     λ b B. matching-refused (judged d b B .judged .checked) (ap verdictOf (c .before .enum-told2 .given .1)) (c .refused .ensures)
+
+returns-2 : tie.Need-returns-2
+returns-2 c =
+    let t : tie.After-enum-told = search in
+    let o : tie.Then1 = search in
+    let r : tie.After-refuse = search in
+    let v = r .refuse .ensures in
+    λ b B. request-refused (judged (stable t) b B) (passed t b B) (v ∙ sym (asked-13 _ _ _ _ _ (o .if1 .taken))) v (c .refused2 .ensures)
 
 check-pair-requires : tie.Need-check-pair-requires
 check-pair-requires c κs =
@@ -77,21 +98,17 @@ check-pair-requires c κs =
     let B = start (stable t) .pre .recorded in
     judged-long (judged (stable t) _ B) (passed t _ B)
 
-returns-2 : tie.Need-returns-2
-returns-2 c =
-    let p : tie.After-check-pair = search in
-    let t : tie.After-enum-told = search in
+returns-3 : tie.Need-returns-3
+returns-3 c =
+    let k : tie.After-check-pair = search in
+    let p : tie.After-pair-in = search in
+    let t = paired p in
     let e = ap verdictOf (c .before .enum-told4 .given .1) in
-    λ b B. request-refused (judged (stable t) b B) (passed t b B) (p .check-pair .ensures) e (c .refused2 .ensures)
-
-entry-in-requires : tie.Need-entry-in-requires
-entry-in-requires c κs =
-    let p : tie.After-enum-told3 = search in
-    omega (arith, asks p .two)
+    λ b B. request-refused (judged (stable t) b B) (passed t b B) (k .check-pair .ensures ∙ sym (named p)) e (c .refused3 .ensures)
 
 nearest-requires : tie.Need-nearest-requires
 nearest-requires c κs =
-    let w : tie.After-entry-in = search in
+    let w : tie.After-enum-told3 = search in
     let t = paired (asking w) in
     let B = start (stable t) .pre .recorded in
     (judged-given (judged (stable t) _ B) (passed t _ B), omega (arith, student w))
@@ -100,23 +117,22 @@ answer-requires : tie.Need-answer-requires
 answer-requires c κs =
     let r : tie.After-nearest = search in
     let w = found r in
-    let p = asking w in
-    let t = paired p in
+    let t = paired (asking w) in
     let B = start (stable t) .pre .recorded in
     let J = judged (stable t) _ B in (
-      found-writable J (passed t _ B) (student w) (r .nearest .ensures) (asks p .room-fits),
-      (given-small J (passed t _ B), asks p .gains-fit),
+      found-writable J (passed t _ B) (student w) (r .nearest .ensures) (asks w .room-fits),
+      (given-small J (passed t _ B), asks w .gains-fit),
     )
 
-returns-3 : tie.Need-returns-3
-returns-3 c =
+returns-4 : tie.Need-returns-4
+returns-4 c =
     let f : tie.After-answer = search in
     let r : tie.After-nearest = search in
     let w = found r in
     let p = asking w in
     let t = paired p in
     let E = f .answer .ensures in
-    λ b B. returns-found (judged (stable t) b B) (passed t b B) (student w) (r .nearest .ensures) (w .entry-in .ensures .0) (admitted p)
+    λ b B. returns-found (judged (stable t) b B) (passed t b B) (student w) (r .nearest .ensures) (p .pair-in .ensures .0) (admitted w)
     (E .0) (E .1 .0) (E .1 .1)
 
 pub repair-in-spec : {M : Type 1} → statement M
@@ -128,14 +144,17 @@ repair-in-spec =
     (λ c. search needs)
     (λ c κs. search needs)
     returns
+    (λ c κs. search needs)
+    (λ c κs. search needs)
+    returns-2
+    (λ c κs. c .if1 .left)
     check-pair-requires
     (λ c. search needs)
     (λ c. search needs)
     (λ c κs. search needs)
-    returns-2
-    entry-in-requires
+    returns-3
     nearest-requires
     answer-requires
     (λ c. search needs)
     (λ c. search needs)
-    returns-3)
+    returns-4)
