@@ -8,17 +8,17 @@ use Rattle.stable_theory.specs.Stable.Market.{Market}
 use Rattle.stable_theory.specs.Stable.Vector.{Stable}
 use Rattle.stable_theory.specs.Rotations.Finding.{Finding}
 use Rattle.rotation_elimination.specs.Room.{Room}
-use Rattle.rotation_waits.specs.Waits.{waitsLeft, Noted}
+use Rattle.rotation_waits.specs.Waits.{nameOf, waitsLeft, Noted}
 use Rattle.rotation_waits.specs.AllRotations.{AllRotations, numbered}
 use Rattle.rotation_notes.specs.Writing.{RotationWritten}
 
--- the lists have room for the rotations of n persons, and their numbers fit
+-- the lists have room for the rotations of n persons, and their numbers and names fit
 pub record Recordable (n : ℕ) (best waits pairs begin left : List ℕ) : Type 0 where
   pub places : n ≤ length best
   pub short : {w : ℕ} → w < n → vec best w ≤ n
   pub cells : n * n ≤ length waits
   pub small : n < 65536
-  pub few : n * n < 65535
+  pub few : nameOf (n * n) < 65536
   pub pairs-fit : length pairs < 65536
   pub begins : n * n ≤ 2 * length begin
   pub lefts : length left ≡ length begin
@@ -36,7 +36,7 @@ pub record Recorded (I : Market) (p best : ℕ → ℕ) (c end : ℕ) (pairs beg
 -- one more stands there, that of the frames from `low` up to `depth`, which is exposed in p
 pub record RecordedOne (I : Market) (p best frames : ℕ → ℕ) (low depth c end : ℕ) (pairs begin left waits pairs₂ begin₂ left₂ waits₂ : List ℕ) : Type 0 where
   pub count : ℕ
-  pub one : RotationWritten I p best frames low depth (c + 1) end pairs waits pairs₂ waits₂ count
+  pub one : RotationWritten I p best frames low depth (nameOf c) end pairs waits pairs₂ waits₂ count
   pub long : length pairs₂ ≡ length pairs
   pub begins : begin₂ ≡ set begin c end
   pub lefts : left₂ ≡ set left c count

@@ -8,6 +8,7 @@ use Rattle.stable_theory.specs.Stable.Market.{Market}
 use Rattle.stable_theory.specs.Stable.Vector.{Mirror}
 use Rattle.stable_theory.specs.Stable.Holding.{Same}
 use Rattle.stable_theory.specs.Least.Optimal.{proposer-optimal, receiver-optimal}
+use Rattle.rotation_waits.specs.Waits.{firstName}
 
 -- what the walks change has a number for each person, and four for each man on the path
 pub record WalkSized (n : ℕ) (p t held on frames : List ℕ) : Type 0 where
@@ -25,5 +26,5 @@ pub record SearchStart (I : Market) (ends best p t waits pairs : List ℕ) : Typ
   pub best-sides : Mirror I (proposer-optimal I) (vec best)
   pub last : Same I (vec ends) (receiver-optimal I)
   pub reaches : I .proposers .size ≤ length ends
-  pub blank : (v : ℕ) → v < I .receivers .size * I .proposers .size → vec waits v ≡ 0
+  pub blank : (v : ℕ) → v < I .receivers .size * I .proposers .size → vec waits v < firstName
   pub room : 5 * (I .proposers .size * I .receivers .size) ≤ 2 * length pairs

@@ -1,6 +1,7 @@
 // The rotations found, as they stand in lists: the rotations in `pairs`, number q from index begin[q] on, for how many
 // women each waits in `left`, and for whom in `waits`.
 use rotation_notes::write;
+use rotation_waits::FIRST_NAME;
 ghost use mathlib.Core.Path.{_≡_};
 ghost use Prim.Native.Nat.{_+_, _*_, _-_, _≤_};
 ghost use lib.ListN.{length};
@@ -46,7 +47,7 @@ pub(crate) fn record(
 {
     let count = found.count;
     let at = found.end;
-    let name = count + 1;
+    let name = FIRST_NAME + count;
     begin[count] = at as u16;
     left[count] = write(
         n,
@@ -64,7 +65,7 @@ pub(crate) fn record(
         name,
     ) as u16;
     Found {
-        count: name,
+        count: count + 1,
         end: at + 1 + 2 * (depth - low),
     }
 }

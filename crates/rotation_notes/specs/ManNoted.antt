@@ -1,6 +1,6 @@
 -- The women past whom a rotation moves one of its men, noted in the table of those for whom rotations wait. Assumes
 -- nothing.
-use Prim.Native.Nat.{ℕ, suc, _+_, _*_, _≤_, _<_}
+use Prim.Native.Nat.{ℕ, _+_, _*_, _≤_, _<_}
 use mathlib.Core.Path.{_≡_}
 use mathlib.Core.Logic.{_⊎_}
 use mathlib.Core.List.{List}
@@ -8,14 +8,14 @@ use lib.ListN.{length}
 use Rattle.laws.specs.Table.{cell}
 use Rattle.laws.specs.Values.{vec}
 use Rattle.stable_theory.specs.Stable.Market.{Market}
-use Rattle.rotation_waits.specs.Waits.{waitsLeft}
+use Rattle.rotation_waits.specs.Waits.{firstName, nameOf, waitsLeft}
 
--- the women's places and the table have room for n persons, and the name fits and is not 0
+-- the women's places and the table have room for n persons, and the name is one and fits
 pub record Fits (n : ℕ) (best waits : List ℕ) (name : ℕ) : Type 0 where
   pub places : n ≤ length best
   pub short : {w : ℕ} → w < n → vec best w ≤ n
   pub cells : n * n ≤ length waits
-  pub some : 0 < name
+  pub some : firstName ≤ name
   pub small : name < 65536
 
 -- she at place k of m's list prefers him to the man at place `best`
@@ -31,7 +31,7 @@ pub record Blank (I : Market) (best : ℕ → ℕ) (waits : List ℕ) (m from to
   pub man : m < I .proposers .size
   pub onward : from ≤ to
   pub short : to ≤ I .proposers .len m
-  pub blank : {k : ℕ} → from ≤ k → k < to → Prefers I best m k → cellOf I waits m k ≡ 0
+  pub blank : {k : ℕ} → from ≤ k → k < to → Prefers I best m k → cellOf I waits m k < firstName
 
 -- the cell at rank x of w's row is man m's, and she is one of those women
 pub record NotedFor (I : Market) (best : ℕ → ℕ) (m from to w x : ℕ) : Type 0 where
@@ -51,8 +51,8 @@ pub record ManNoted (I : Market) (best : ℕ → ℕ) (name m from to : ℕ) (be
       {w x : ℕ} → w < I .receivers .size → x < I .proposers .size →
       (cell waits (I .proposers .size) w x ≡ cell before (I .proposers .size) w x) ⊎ NotedFor I best m from to w x
   pub more :
-      {q : ℕ} → suc q ≡ name →
+      (q : ℕ) → nameOf q ≡ name →
       waitsLeft (I .proposers .size) (I .receivers .size) waits best q ≡ waitsLeft (I .proposers .size) (I .receivers .size) before best q + count
   pub others :
-      {q : ℕ} → (suc q ≡ name → ⊥) →
+      (q : ℕ) → (nameOf q ≡ name → ⊥) →
       waitsLeft (I .proposers .size) (I .receivers .size) waits best q ≡ waitsLeft (I .proposers .size) (I .receivers .size) before best q

@@ -1,5 +1,5 @@
 -- The women past whom a rotation moves its men, noted man by man. Assumes nothing.
-use Prim.Native.Nat.{ℕ, suc, _+_, _<_}
+use Prim.Native.Nat.{ℕ, _+_, _<_}
 use mathlib.Core.Path.{_≡_}
 use mathlib.Core.Logic.{_⊎_}
 use mathlib.Core.List.{List}
@@ -8,7 +8,7 @@ use Rattle.laws.specs.Table.{cell}
 use Rattle.stable_theory.specs.Stable.Market.{Market}
 use Rattle.stable_theory.specs.Rotations.Rotation.{Rotation}
 use Rattle.stable_theory.specs.Rotations.Clear.{MovesPast}
-use Rattle.rotation_waits.specs.Waits.{waitsLeft}
+use Rattle.rotation_waits.specs.Waits.{firstName, nameOf, waitsLeft}
 
 -- the cell of the man of pair k of the rotation in w's row
 abbrev pub cellAt : Market → List ℕ → Rotation → ℕ → ℕ → ℕ
@@ -17,7 +17,7 @@ cellAt I waits ρ k w = cell waits (I .proposers .size) w (I .receivers .place w
 -- no name stands at the cells of the rotation's men in the rows of the women past whom it moves them, and who prefer
 -- them to the men at the places `best`
 abbrev pub BlankFor : Market → (ℕ → ℕ) → Rotation → List ℕ → Type 0
-BlankFor I best ρ waits = (k w : ℕ) → MovesPast I ρ k w → I .receivers .place w (ρ .man k) < best w → cellAt I waits ρ k w ≡ 0
+BlankFor I best ρ waits = (k w : ℕ) → MovesPast I ρ k w → I .receivers .place w (ρ .man k) < best w → cellAt I waits ρ k w < firstName
 
 -- the cell at rank x of w's row is that of one of the first j men, and she is one of those women
 pub record AwaitedBy (I : Market) (best : ℕ → ℕ) (ρ : Rotation) (j w x : ℕ) : Type 0 where
@@ -36,8 +36,8 @@ pub record RotationNoted (I : Market) (best : ℕ → ℕ) (ρ : Rotation) (name
       {w x : ℕ} → w < I .receivers .size → x < I .proposers .size →
       (cell waits (I .proposers .size) w x ≡ cell before (I .proposers .size) w x) ⊎ AwaitedBy I best ρ j w x
   pub more :
-      {q : ℕ} → suc q ≡ name →
+      (q : ℕ) → nameOf q ≡ name →
       waitsLeft (I .proposers .size) (I .receivers .size) waits best q ≡ waitsLeft (I .proposers .size) (I .receivers .size) before best q + count
   pub others :
-      {q : ℕ} → (suc q ≡ name → ⊥) →
+      (q : ℕ) → (nameOf q ≡ name → ⊥) →
       waitsLeft (I .proposers .size) (I .receivers .size) waits best q ≡ waitsLeft (I .proposers .size) (I .receivers .size) before best q

@@ -7,6 +7,7 @@ use Rattle.format.specs.Format.{largest, people}
 use Rattle.format.specs.Record.{Record}
 use Rattle.instances.specs.Usable.{marketIn}
 use Rattle.laws.specs.Values.{vec}
+use Rattle.rotation_waits.specs.Waits.{firstName}
 use Rattle.rotation_ordering.specs.Ordering.{Numbered}
 use Rattle.rotation_numbering.specs.declared.numbering.Extent.{Extent}
 
@@ -21,7 +22,7 @@ LongList b list = people b ≤ largest → ListRoom (people b) list
 -- Lists for the rotations of n men as they are found, of which none is: there are at most half as many as places
 pub record EmptyNotes (n : ℕ) (waits pairs starts left : List ℕ) : Type 0 where
   pub cells : n * n ≤ length waits
-  pub blank : (v : ℕ) → vec waits v ≡ 0
+  pub blank : (v : ℕ) → v < n * n → vec waits v < firstName
   pub room : ListRoom n pairs
   pub pairs-fit : length pairs < 65536
   pub many : n * n ≤ 2 * length starts

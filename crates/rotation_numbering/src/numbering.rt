@@ -98,7 +98,7 @@ pub fn number_all<'a>(
     ensures { λ R r. ⌜ NumberingOf R (now₁ list) r ⌝ }
 {
     if n <= Instance::SMALL {
-        let mut waits = [0u16; Instance::SMALL_RANKS];
+        let mut waits = [Instance::VACANT; Instance::SMALL_RANKS];
         let mut pairs = [Instance::VACANT; SMALL_ROOM];
         let mut starts = [Instance::VACANT; SMALL_MOST];
         let mut left = [Instance::VACANT; SMALL_MOST];
@@ -115,7 +115,7 @@ pub fn number_all<'a>(
             list,
         );
     }
-    let mut waits = [0u16; Instance::RANKS];
+    let mut waits = [Instance::VACANT; Instance::RANKS];
     let mut pairs = [Instance::VACANT; ROOM];
     let mut starts = [Instance::VACANT; MOST];
     let mut left = [Instance::VACANT; MOST];

@@ -1,6 +1,7 @@
 // The queue of the rotations that wait for no woman. The rotations stand in `pairs`, number q from index begin[q] on,
 // and `left` has for how many women each waits. `ready` has for each man one more than the number of the rotation of
 // the queue of which he is the first man, or 0.
+use rotation_waits::FIRST_NAME;
 use tables::wide;
 ghost use mathlib.Core.Path.{_≡_};
 ghost use Prim.Native.Nat.{min};
@@ -17,8 +18,8 @@ fn lower(x: usize, y: usize) -> usize
     if y < x { y } else { x }
 }
 
-// One woman less for the rotation of this name, one more than its number; where she was the last for whom it waited, it
-// enters. No rotation has the name 0. No man before the answer has an entry where none before `low` had one.
+// One woman less for the rotation of this name; where she was the last for whom it waited, it enters. A number below
+// FIRST_NAME names no rotation. No man before the answer has an entry where none before `low` had one.
 pub(crate) fn release(
     name: usize,
     pairs: &[u16],
@@ -32,16 +33,16 @@ pub(crate) fn release(
         (vec₀ left) (vec₀ ready) low (vec₁ left) (vec₁ ready) r ⌝ }
     ensures { λ _. ⌜ OneLess name (vec₀ left) (vec₁ left) ⌝ }
 {
-    if name == 0 {
+    if name < FIRST_NAME {
         return low;
     }
-    let q = name - 1;
+    let q = name - FIRST_NAME;
     let fewer = wide(left[q]) - 1;
     left[q] = fewer as u16;
     if fewer != 0 {
         return low;
     }
     let first = wide(pairs[wide(begin[q]) + 1]);
-    ready[first] = name as u16;
+    ready[first] = (q + 1) as u16;
     lower(low, first)
 }

@@ -15,23 +15,24 @@ use Rattle.stable_theory.specs.Rotations.Unordered.{unordered-alike}
 use Rattle.stable_theory.specs.Rotations.Finding.{finding-start, finding-end}
 use Rattle.rotation_elimination.specs.Written.{rotationIn}
 use Rattle.rotation_elimination.specs.Laws.Room.{room-within}
+use Rattle.rotation_waits.specs.Waits.{firstName}
 use Rattle.rotation_waits.specs.Laws.Noted.{noted-alike}
 use Rattle.rotation_waits.specs.AllRotations.{numbered}
 use Rattle.rotation_finding.specs.Recording.{Recorded, FoundAll}
 
 module _ {I : Market} (M : Proper I) {p best : ℕ → ℕ} {pairs begin left waits : List ℕ} where
-  -- nothing is recorded at the proposers' best vector, and the table is empty
+  -- nothing is recorded at the proposers' best vector, and no name stands in the table
   pub recorded-start :
-      Stable I p → Same I p (proposer-optimal I) → ((v : ℕ) → v < I .receivers .size * I .proposers .size → vec waits v ≡ 0) →
+      Stable I p → Same I p (proposer-optimal I) → ((v : ℕ) → v < I .receivers .size * I .proposers .size → vec waits v < firstName) →
       5 * (I .proposers .size * I .receivers .size) ≤ 2 * length pairs → ((w : ℕ) → w < I .receivers .size → best w ≤ I .proposers .size) →
       Recorded I p best 0 0 pairs begin left waits
-  recorded-start P e zero room few =
+  recorded-start P e blank room few =
       record {
         stable = P;
         finding = finding-start M (numbered pairs begin) e;
         noted = record {
-          names = λ {w} {x} u v. omega (arith, zero (w * I .proposers .size + x) (cell-lt u v));
-          rightly = λ {w} {x} {q} u l f. absurd (omega (arith, zero (w * I .proposers .size + x) (cell-lt u (omega (arith, few w u)))));
+          names = λ {w} {x} u v. omega (arith, blank (w * I .proposers .size + x) (cell-lt u v));
+          rightly = λ {w} {x} {q} u l f. absurd (omega (arith, blank (w * I .proposers .size + x) (cell-lt u (omega (arith, few w u)))));
           all = λ h m l. absurd (omega arith);
         };
         counts = λ h. absurd (omega arith);

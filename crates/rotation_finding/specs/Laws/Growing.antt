@@ -21,7 +21,6 @@ use Rattle.rotation_elimination.specs.Laws.Room.{room-after}
 use Rattle.rotation_waits.specs.Waits.{waitsLeft}
 use Rattle.rotation_waits.specs.AllRotations.{numbered}
 use Rattle.rotation_waits.specs.Laws.Left.{none-left}
-use Rattle.rotation_notes.specs.RotationNoted.{RotationNoted}
 use Rattle.rotation_notes.specs.Laws.RotationNoted.{ShortLists}
 use Rattle.rotation_notes.specs.Laws.Noting.{noting-on}
 use Rattle.rotation_finding.specs.Recording.{Recorded, RecordedOne}
@@ -58,11 +57,7 @@ module _ {I : Market} (M : Proper I) (short : ShortLists I) {p best : ℕ → �
   unfolding rotationIn
   kept q h = rw (begins-old h) (in-same pairs pairs₂ (O .one .kept) (vec begin q) (R .finding .each h .exposed .some) (R .inside h))
 
-  -- its name
-  named : RotationNoted I best (O .one .rotation) (suc c) (O .one .rotation .pairs) waits waits₂ (O .count)
-  named = rw (add-one c) at (O .one .noted)
-
-  -- no cell had it
+  -- no cell had its name
   unnamed : waitsLeft (I .proposers .size) (I .receivers .size) waits best c ≡ 0
   unnamed =
       none-left (I .proposers .size) (I .receivers .size) waits best c
@@ -72,8 +67,8 @@ module _ {I : Market} (M : Proper I) (short : ShortLists I) {p best : ℕ → �
   counts-on : (q : ℕ) → q < suc c → vec left₂ q ≡ waitsLeft (I .proposers .size) (I .receivers .size) waits₂ best q
   counts-on q h =
       same q c
-      (λ e. rw (e, O .lefts) (getD-set-same left c (O .count) 0 l ∙ omega (arith, named .more {q = c} refl, unnamed)))
-      (λ ne. rw (O .lefts) (getD-set-other left c q (O .count) 0 ne ∙ (R .counts (omega arith) ∙ sym (named .others (λ e. ne (omega arith))))))
+      (λ e. rw (e, O .lefts) (getD-set-same left c (O .count) 0 l ∙ omega (arith, O .one .noted .more c refl, unnamed)))
+      (λ ne. rw (O .lefts) (getD-set-other left c q (O .count) 0 ne ∙ (R .counts (omega arith) ∙ sym (O .one .noted .others q (λ e. ne (omega arith))))))
 
   -- and where they end
   inside-on : (q : ℕ) → q < suc c → vec begin₂ q + 1 + 2 * vec pairs₂ (vec begin₂ q) ≤ end + (1 + 2 * (depth - low))
@@ -92,7 +87,7 @@ module _ {I : Market} (M : Proper I) (short : ShortLists I) {p best : ℕ → �
       rw s (record {
         stable = stable-same (eliminate I (O .one .rotation) p) p₂ (vector-sym M e) (eliminate-stable M (R .stable) X);
         finding = finding-on M (R .finding) (R .stable) X e new kept;
-        noted = noting-on M (R .noted) (R .stable) (R .finding) X short named new kept few;
+        noted = noting-on M (R .noted) (R .stable) (R .finding) X short (O .one .noted) new kept few;
         counts = λ {q} h. counts-on q h;
         inside = λ {q} h. inside-on q h;
         room = room-after M (R .stable) X (R .room) e (O .long) (sym (O .one .size));

@@ -14,6 +14,7 @@ use Rattle.stable_theory.specs.Rotations.RotationCount.{rotations-most}
 use Rattle.stable_theory.specs.Rotations.Canonical.{rotations-complete}
 use Rattle.stable_theory.specs.Rotations.Finding.{finding-few}
 use Rattle.rotation_elimination.specs.Laws.Room.{room-now}
+use Rattle.rotation_waits.specs.Waits.{nameOf}
 use Rattle.rotation_notes.specs.ManNoted.{Fits}
 use Rattle.rotation_notes.specs.Writing.{LowestFrame, CycleFrames, BlankExposed}
 use Rattle.rotation_notes.specs.Laws.Writing.{some-lowest}
@@ -55,7 +56,7 @@ module _ {n : ℕ} {mlists wlists wranks : List ℕ} (T : Sound (tablesOf n n ml
       record-room = let (ρ, X, e) = some-rotation in rw e at (room-now (T .proper) (R .stable) X (R .room) (λ i u. T .proposers .short u))
 
       -- its name fits
-      pub record-fits : Fits n best waits (c + 1)
+      pub record-fits : Fits n best waits (nameOf c)
       record-fits = record { places = D .places; short = D .short; cells = D .cells; some = omega arith; small = omega (arith, record-few, D .few) }
 
       -- and its cells are blank

@@ -12,6 +12,7 @@ use Rattle.tables.specs.Lists.{tablesOf, Sound, marketOf, atIn}
 use Rattle.tables.specs.Laws.Rows.{stored-index, rank-index}
 use Rattle.stable_theory.specs.Stable.Market.{Market}
 use Rattle.stable_theory.specs.Stable.Holding.{accept-at}
+use Rattle.rotation_waits.specs.Waits.{firstName}
 use Rattle.rotation_waits.specs.Laws.Left.{other-cell, that-cell, left-named, left-other}
 use Rattle.rotation_notes.specs.ManNoted.{Fits, Prefers, cellOf, Blank, NotedFor, ManNoted}
 
@@ -40,8 +41,8 @@ noted-start I best name m from waits =
       long = refl;
       noted = λ l h p. absurd (omega arith);
       each = λ u v. inl refl;
-      more = λ e. omega arith;
-      others = λ ne. refl;
+      more = λ q e. omega arith;
+      others = λ q ne. refl;
     }
 
 module _ {n : ℕ} {mlists wlists wranks : List ℕ} (T : Sound (tablesOf n n mlists wlists wranks)) where
@@ -84,8 +85,8 @@ module _ {n : ℕ} {mlists wlists wranks : List ℕ} (T : Sound (tablesOf n n ml
                 (λ e. ⊎-elim (λ d. inl (e ∙ d)) (λ x. inr (noted-upto g x)) (N .each u v))
                 (λ x. inr (noted-from f x))
                 (O .each u v);
-            more = λ e. omega (arith, N .more e, O .more e);
-            others = λ ne. O .others ne ∙ N .others ne;
+            more = λ q e. omega (arith, N .more q e, O .more q e);
+            others = λ q ne. O .others q ne ∙ N .others q ne;
           }
 
       -- what is blank for the women from place k on is so after those before are noted
@@ -95,7 +96,7 @@ module _ {n : ℕ} {mlists wlists wranks : List ℕ} (T : Sound (tablesOf n n ml
             man = B .man;
             onward = g;
             short = B .short;
-            blank = λ {k = j} l h p. still N h g (λ a b. omega arith) ∙ B .blank (omega arith) h p;
+            blank = λ {k = j} l h p. omega (arith, still N h g (λ a b. omega arith), B .blank (omega arith) h p);
           }
 
   -- what is blank is so for fewer women
@@ -141,8 +142,8 @@ module _ {n : ℕ} {mlists wlists wranks : List ℕ} (T : Sound (tablesOf n n ml
                   let q : Prefers (marketOf n n mlists wlists) (vec best) m k = rw s at p in
                   absurd (omega (arith, rank, ap (vec best) ew));
               each = λ u v. inl refl;
-              more = λ e. omega arith;
-              others = λ ne. refl;
+              more = λ q e. omega arith;
+              others = λ q ne. refl;
             }
 
         -- she does
@@ -150,7 +151,7 @@ module _ {n : ℕ} {mlists wlists wranks : List ℕ} (T : Sound (tablesOf n n ml
           prefers : Prefers (marketOf n n mlists wlists) (vec best) m k
           prefers = omega (arith, rank, ap (vec best) ew)
 
-          empty : cell waits n w r ≡ 0
+          empty : cell waits n w r < firstName
           empty = rw (rank, ew) (B .blank (omega arith) (omega arith) prefers)
 
           within : w * n + r < length waits
@@ -172,6 +173,6 @@ module _ {n : ℕ} {mlists wlists wranks : List ℕ} (T : Sound (tablesOf n n ml
                       prefers = omega (arith, ap (vec best) e);
                     })
                     (λ ne. inl (other-cell waits name (λ v u. F .short u) at-woman l within empty u g ne));
-                more = λ e. left-named waits name (λ v u. F .short u) at-woman l within empty e;
-                others = λ ne. left-other waits name (λ v u. F .short u) at-woman l within empty ne;
+                more = λ q e. left-named waits name (λ v u. F .short u) at-woman l within empty q e;
+                others = λ q ne. left-other waits name (λ v u. F .short u) at-woman l within empty q ne;
               }

@@ -1,6 +1,6 @@
--- A rotation more in the table of those for whom rotations wait: its cells are empty before, since the rotations found
+-- A rotation more in the table of those for whom rotations wait: its cells have no name before, since the rotations found
 -- before it have moved its men to its places at most, and they are its own afterwards. Assumes nothing.
-use Prim.Native.Nat.{ℕ, suc, pred, _≤_, _<_}
+use Prim.Native.Nat.{ℕ, suc, _-_, _≤_, _<_}
 use mathlib.Core.Path.{_≡_, refl, sym, _∙_, ap}
 use mathlib.Core.Logic.{⊎-elim}
 use mathlib.Core.List.{List}
@@ -16,7 +16,7 @@ use Rattle.stable_theory.specs.Rotations.Dichotomy.{passed-all}
 use Rattle.stable_theory.specs.Rotations.Clear.{MovesPast}
 use Rattle.stable_theory.specs.Rotations.Finding.{Finding}
 use Rattle.stable_theory.specs.Rotations.SameRotation.{same-sym}
-use Rattle.rotation_waits.specs.Waits.{Awaits, Noted}
+use Rattle.rotation_waits.specs.Waits.{firstName, nameOf, Awaits, Noted}
 use Rattle.rotation_notes.specs.RotationNoted.{cellAt, BlankFor, AwaitedBy, RotationNoted}
 use Rattle.rotation_notes.specs.Laws.RotationNoted.{ShortLists}
 
@@ -55,21 +55,22 @@ module _ {I : Market} (M : Proper I) {z : ℕ} {σ : ℕ → Rotation} {best : �
         ap (λ (j : ℕ). I .proposers .place j w) s,
       )
 
-  -- so it is empty
+  -- so it has no name
   pub noting-blank : BlankFor I best ρ waits
   noting-blank k w m l =
       let v = m .pair .receiver in
       let c = cellAt I waits ρ k w in
       let b = N .names {w = w} {x = I .receivers .place w (ρ .man k)} v (omega (arith, m .pair .listed, short w v)) in
-      split c 0 (λ g. omega arith)
-      (λ g. let e : c ≡ suc (pred c) = omega arith in
+      split firstName c
+      (λ g. let e : c ≡ nameOf (c - firstName) = omega arith in
       absurd (apart m refl (omega arith) (N .rightly v l e)))
+      (λ g. g)
 
   -- The new rotation is noted under its name, and σ₂ numbers it after those before
-  module _ {after : List ℕ} {d : ℕ} (R : RotationNoted I best ρ (suc z) (ρ .pairs) waits after d) {σ₂ : ℕ → Rotation} (new : SamePairs ρ (σ₂ z))
+  module _ {after : List ℕ} {d : ℕ} (R : RotationNoted I best ρ (nameOf z) (ρ .pairs) waits after d) {σ₂ : ℕ → Rotation} (new : SamePairs ρ (σ₂ z))
       (kept : (q : ℕ) → q < z → SamePairs (σ q) (σ₂ q)) (few : (w : ℕ) → w < I .receivers .size → best w ≤ I .proposers .size) where
     -- a cell of the new rotation
-    ours : {w x : ℕ} → AwaitedBy I best ρ (ρ .pairs) w x → (cell after (I .proposers .size) w x ≡ suc z) × Awaits I (σ₂ z) w x
+    ours : {w x : ℕ} → AwaitedBy I best ρ (ρ .pairs) w x → (cell after (I .proposers .size) w x ≡ nameOf z) × Awaits I (σ₂ z) w x
     ours {w} f =
         let e = new .man (f .number) (omega (arith, f .below)) in (
           rw (f .rank) at (R .noted (f .below) (f .past) (rw (f .rank) (f .prefers))),
@@ -77,21 +78,21 @@ module _ {I : Market} (M : Proper I) {z : ℕ} {σ : ℕ → Rotation} {best : �
         )
 
     -- the cells of the new rotation have its name
-    all-new : {k w : ℕ} → MovesPast I (σ₂ z) k w → I .receivers .place w (σ₂ z .man k) < best w → cellAt I after (σ₂ z) k w ≡ suc z
+    all-new : {k w : ℕ} → MovesPast I (σ₂ z) k w → I .receivers .place w (σ₂ z .man k) < best w → cellAt I after (σ₂ z) k w ≡ nameOf z
     all-new {k} n b =
         let m = moves-same (same-sym new) n in
         let a = new .man k (omega (arith, m .number)) in
         rw (← a) (R .noted (m .number) m (rw a b))
 
-    -- and those of the others theirs, since they were not empty
-    all-old : {q k w : ℕ} → q < z → MovesPast I (σ₂ q) k w → I .receivers .place w (σ₂ q .man k) < best w → cellAt I after (σ₂ q) k w ≡ suc q
+    -- and those of the others theirs, since they had a name
+    all-old : {q k w : ℕ} → q < z → MovesPast I (σ₂ q) k w → I .receivers .place w (σ₂ q .man k) < best w → cellAt I after (σ₂ q) k w ≡ nameOf q
     all-old {q} {k} {w} h n b =
         let m = moves-same (same-sym (kept q h)) n in
         let a = kept q h .man k (omega (arith, m .number)) in
-        let e : cellAt I waits (σ₂ q) k w ≡ suc q = rw (← a) (N .all h m (rw a b)) in
+        let e : cellAt I waits (σ₂ q) k w ≡ nameOf q = rw (← a) (N .all h m (rw a b)) in
         let v = n .pair .receiver in
         ⊎-elim (λ d. d ∙ e)
-        (λ f. let g : cell waits (I .proposers .size) w (I .receivers .place w (σ₂ q .man k)) ≡ 0 =
+        (λ f. let g : cell waits (I .proposers .size) w (I .receivers .place w (σ₂ q .man k)) < firstName =
         rw (f .rank) at (noting-blank (f .number) w (f .past) (rw (f .rank) (f .prefers))) in
         absurd (omega arith))
         (R .each v (omega (arith, n .pair .listed, short w v)))

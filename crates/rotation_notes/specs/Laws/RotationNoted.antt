@@ -20,8 +20,8 @@ rotation-start I best ρ name waits =
       long = refl;
       noted = λ h m l. absurd (omega arith);
       each = λ u v. inl refl;
-      more = λ e. omega arith;
-      others = λ ne. refl;
+      more = λ q e. omega arith;
+      others = λ q ne. refl;
     }
 
 -- No woman's list is longer than there are men
@@ -54,9 +54,8 @@ module _ {I : Market} (M : Proper I) (short : ShortLists I) {p : ℕ → ℕ} {�
         blank = λ {k} f g q.
             let a = moves-past f g in
             let w = I .proposers .at (ρ .man j) k in
-            ⊎-elim (λ e. e) (λ f. absurd (other-man (f .below) (f .past) a (f .rank)))
-            (R .each (a .pair .receiver) (omega (arith, a .pair .listed, short w (a .pair .receiver))))
-            ∙ B j w a q;
+            ⊎-elim (λ e. omega (arith, B j w a q)) (λ f. absurd (other-man (f .below) (f .past) a (f .rank)))
+            (R .each (a .pair .receiver) (omega (arith, a .pair .listed, short w (a .pair .receiver))));
       })
 
   -- and he is the next
@@ -87,6 +86,6 @@ module _ {I : Market} (M : Proper I) (short : ShortLists I) {p : ℕ → ℕ} {�
                 (R .each u v))
                 (λ f. inr (record { number = j; below = omega arith; past = his f; rank = sym (f .rank); prefers = f .prefers }))
                 (N .each u v);
-            more = λ e. omega (arith, R .more e, N .more e);
-            others = λ ne. N .others ne ∙ R .others ne;
+            more = λ q e. omega (arith, R .more q e, N .more q e);
+            others = λ q ne. N .others q ne ∙ R .others q ne;
           }

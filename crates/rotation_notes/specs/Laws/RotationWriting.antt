@@ -10,6 +10,7 @@ use Rattle.tables.specs.Lists.{tablesOf, Sound, marketOf}
 use Rattle.stable_theory.specs.Rotations.Rotation.{Rotation, Exposed}
 use Rattle.stable_theory.specs.Rotations.CycleFrom.{wrapped, wrapped-inside, wrapped-row, cycleFrom, row-woman, cycle-exposed}
 use Rattle.rotation_path.specs.Path.{manAt, placeAt}
+use Rattle.rotation_waits.specs.Waits.{firstName}
 use Rattle.rotation_waits.specs.Laws.Left.{left-most}
 use Rattle.rotation_notes.specs.ManNoted.{Fits, Blank}
 use Rattle.rotation_notes.specs.RotationNoted.{RotationNoted}
@@ -100,4 +101,4 @@ pub count-most :
     {n : ℕ} {mlists wlists wranks : List ℕ} → Sound (tablesOf n n mlists wlists wranks) → {best waits : List ℕ} {name : ℕ} → Fits n best waits name → {ρ : Rotation} {k : ℕ} {table after : List ℕ} {count : ℕ} →
     RotationNoted (marketOf n n mlists wlists) (vec best) ρ name k table after count → count ≤ n * n
 count-most {n} T {best} {name = name} F {after = after} R =
-    omega (arith, R .more {q = name - 1} (omega (arith, F .some)), left-most n n after (vec best) (λ w h. F .short h) (name - 1))
+    omega (arith, R .more (name - firstName) (omega (arith, F .some)), left-most n n after (vec best) (λ w h. F .short h) (name - firstName))

@@ -106,7 +106,7 @@ module _ {r : Record} (U : Usable r) {s : Places} (P : PlacesIn (r .n) (marketIn
           best-sides = best-mirror;
           last = Q .same;
           reaches = omega (arith, Q .men-long, U .few);
-          blank = λ v h. E .blank v;
+          blank = E .blank;
           room = E .room;
         }
 

@@ -5,26 +5,24 @@ use mathlib.Core.Bool.{true}
 use mathlib.Core.List.{List}
 use native.Mathlib.Omega.{arith}
 use native.Mathlib.Nat.{mul-le-mul}
-use lib.ListN.{replicate, length-replicate}
-use Rattle.laws.specs.Table.{zeros-read}
-use Rattle.laws.specs.Padded.{zeros}
+use lib.ListN.{replicate, length-replicate, getD-replicate}
 use Rattle.format.specs.Format.{largest, people}
 use Rattle.format.specs.Record.{Record, small, isSmall, vacant}
 use Rattle.format.specs.Laws.LongTables.{small-upto}
 use Rattle.instances.specs.Laws.Read.{Read}
 use Rattle.rotation_numbering.specs.Numbering.{ListRoom, LongList, EmptyNotes}
 
--- lists for the rotations found, of c, p and m entries: a table of zeros, and whatever is vacant
+-- lists for the rotations found, of c, p and m entries, all vacant
 pub empty-notes :
     {n : ℕ} (c p m : ℕ) → n * n ≤ c → 5 * (n * n) ≤ 2 * p → p < 65536 → n * n ≤ 2 * m → m < 65535
-    → EmptyNotes n (zeros c) (replicate p vacant) (replicate m vacant) (replicate m vacant)
+    → EmptyNotes n (replicate c vacant) (replicate p vacant) (replicate m vacant) (replicate m vacant)
 empty-notes c p m h u f v g =
-    let i = length-replicate {A = ℕ} c 0 in
+    let i = length-replicate {A = ℕ} c vacant in
     let j = length-replicate {A = ℕ} p vacant in
     let k = length-replicate {A = ℕ} m vacant in
     record {
       cells = omega (arith, i);
-      blank = λ w. zeros-read c w;
+      blank = λ v l. omega (arith, getD-replicate {A = ℕ} c v vacant 0 (omega arith));
       room = omega (arith, j);
       pairs-fit = omega (arith, j);
       many = omega (arith, k);

@@ -11,7 +11,7 @@ use Rattle.laws.specs.Changed.{Changed, changed-set}
 use Rattle.laws.specs.Table.{cell}
 use Rattle.laws.specs.Values.{vec}
 use Rattle.rotation_waits.specs.Queue.{Released}
-use Rattle.rotation_waits.specs.Waits.{waitsLeft}
+use Rattle.rotation_waits.specs.Waits.{nameOf, waitsLeft}
 use Rattle.rotation_waits.specs.Laws.Left.{placed, left-start, left-on, left-end}
 use Rattle.rotation_waits.specs.Laws.Released.{released-start, released-then}
 use Rattle.rotation_release.specs.Rotations.{firstMan, Names}
@@ -40,7 +40,7 @@ raising-start {n} {waits} {t} C e =
 module _ {n : ℕ} {pairs begin waits : List ℕ} {t : ℕ → ℕ} {v : ℕ} {before queue : List ℕ} {bound x : ℕ} {left ready : List ℕ} {low : ℕ}
     (N : Names n (length before) pairs begin waits) (h : v < n) (R : Raising n waits (firstMan pairs begin) t v before queue bound x left ready low) (pos : 0 < x) where
   -- one rank further up
-  counts-on : {q : ℕ} → q < length before → vec left q ≡ waitsLeft n n waits (placed v (x - 1) t) q + pick (eqb (cell waits n v (x - 1)) (suc q)) 1 0
+  counts-on : {q : ℕ} → q < length before → vec left q ≡ waitsLeft n n waits (placed v (x - 1) t) q + pick (eqb (cell waits n v (x - 1)) (nameOf q)) 1 0
   counts-on {q} g =
       let e : x ≡ suc (x - 1) = omega arith in
       R .counts g ∙ (ap (λ (y : ℕ). waitsLeft n n waits (placed v y t) q) e ∙ left-on n n waits t h (x - 1) q)
@@ -49,14 +49,14 @@ module _ {n : ℕ} {pairs begin waits : List ℕ} {t : ℕ → ℕ} {v : ℕ} {b
     -- the rotation named there waits for somebody
     pub raising-releasable : x ≤ n → name < 65536 → length queue ≡ n → Releasable name pairs begin left ready
     raising-releasable l s w =
-        let k : name ≤ length before = rw e (N .names h (omega arith)) in
+        let k : name < nameOf (length before) = rw e (N .names h (omega arith)) in
         record {
           small = s;
           known = omega (arith, R .long);
           begins = omega (arith, R .long, N .begins);
-          inside = λ g. N .inside (omega arith);
-          man = λ {q} g. omega (arith, N .men {q = q} (omega arith), R .wide);
-          some = λ {q} g. let f = eq-eqb (cell waits n v (x - 1)) (suc q) (sym e ∙ sym g) in
+          inside = λ q g. N .inside {q = q} (omega arith);
+          man = λ q g. omega (arith, N .men {q = q} (omega arith), R .wide);
+          some = λ q g. let f = eq-eqb (cell waits n v (x - 1)) (nameOf q) (sym e ∙ sym g) in
               omega (arith, counts-on {q = q} (omega arith), ap (λ b. pick {A = ℕ} b 1 0) f);
         }
 
@@ -69,7 +69,7 @@ module _ {n : ℕ} {pairs begin waits : List ℕ} {t : ℕ → ℕ} {v : ℕ} {b
         record {
           long = p ∙ R .long;
           wide = w ∙ R .wide;
-          counts = λ {q} g. let f : vec left₂ q + pick (eqb (cell waits n v (x - 1)) (suc q)) 1 0 ≡ vec left q = rw (← e) (O q) in
+          counts = λ {q} g. let f : vec left₂ q + pick (eqb (cell waits n v (x - 1)) (nameOf q)) 1 0 ≡ vec left q = rw (← e) (O q) in
               omega (arith, counts-on g);
           released = released-then (R .released) (rw (R .long) at S);
         }

@@ -38,7 +38,7 @@ module _ {I : Market} {z : ℕ} {σ : ℕ → Rotation} {best : ℕ → ℕ} {wa
       let b = I .receivers .size in
       let v = m .pair .receiver in
       split (t w) (I .receivers .place w (σ q .man k)) (λ l. l)
-      (λ l. absurd (left-none a b waits t e v l (N .all h m (omega (arith, B w v)))))
+      (λ l. absurd (left-none a b waits t q e v l (N .all h m (omega (arith, B w v)))))
 
   clear-left : Clear I t (σ q) → waitsLeft (I .proposers .size) (I .receivers .size) waits t q ≡ 0
   clear-left clear =

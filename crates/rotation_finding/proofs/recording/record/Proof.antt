@@ -4,14 +4,15 @@ use mathlib.Core.Path.{refl}
 use native.Mathlib.Omega.{arith}
 use borrow.Author.Needs.{needs}
 use lib.ListN.{length}
+use Rattle.rotation_waits.specs.Waits.{nameOf}
 use Rattle.rotation_notes.specs.Laws.RotationWriting.{count-most}
 use Rattle.rotation_finding.specs.Laws.Recording.{record-few, record-room, record-fits, record-blank}
 use Rattle.rotation_finding.proofs.recording.record.Statement.{statement}
 use Rattle.rotation_finding.proofs.recording.record.Tie as tie
 
--- one more rotation has a number, and there is room
+-- one more rotation has a name, and there is room
 few : (c : tie.Start) → let s = c .args in
-    (s .found .count + 1 < 65536) × (s .found .count < length (s .begin .now)) × (s .found .count < length (s .left .now))
+    (nameOf (s .found .count) < 65536) × (s .found .count < length (s .begin .now)) × (s .found .count < length (s .left .now))
     × (s .found .end + 1 + 2 * (s .depth - s .low) ≤ length (s .pairs .now)) × (length (s .pairs .now) < 65536)
 few c =
     let D = c .pre .1 .0 in
@@ -54,6 +55,7 @@ record-spec =
     (λ c. omega (arith, few (search)))
     write-requires
     (λ c. omega (arith, counted (search)))
+    (λ c. omega (arith, few (search)))
     (λ c. omega (arith, few (search)))
     (λ c. omega (arith, few (search)))
     (λ c. search needs)

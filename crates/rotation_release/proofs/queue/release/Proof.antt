@@ -38,7 +38,6 @@ release-spec =
     (λ c. no-name (c .if1 .taken))
     (λ c. search needs)
     (λ c. search needs)
-    (λ c. search needs)
     (λ c κs. search needs)
     (λ c. let n = named c in name-waits (start n .pre) (n .if1 .left) (c .wide .ensures .0))
     (λ c. search needs)
@@ -57,6 +56,7 @@ release-spec =
     let n = named (read o) in
     name-inside (start n .pre) (n .if1 .left) (d .wide2 .ensures .0))
     (λ c κs. search needs)
+    (λ c. search needs)
     (λ c. search needs)
     (λ c. search needs)
     (λ c.
