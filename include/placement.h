@@ -59,8 +59,8 @@ struct placement_reply placement_write_book(size_t n, const uint8_t *lists, size
 
 /* One student's list, and one mentor's: place is the offset of the list in the book, value its number of bytes.
  * Refused: the book, then 11. */
-struct placement_reply placement_student_list(const uint8_t *book, size_t book_len, uint8_t student);
-struct placement_reply placement_mentor_list(const uint8_t *book, size_t book_len, uint8_t mentor);
+struct placement_reply placement_student_list(const uint8_t *book, size_t book_len, size_t student);
+struct placement_reply placement_mentor_list(const uint8_t *book, size_t book_len, size_t mentor);
 
 /* Says whether a matching is stable. Refused: the book, then 8, 9, 10. value: 0. */
 struct placement_reply placement_check_matching(const uint8_t *book, size_t book_len, const uint8_t *matching, size_t matching_len);
@@ -79,6 +79,9 @@ struct placement_reply placement_repair(const uint8_t *book, size_t book_len, co
 
 /* value: the grade of a stable matching. Refused: the book, then 8, 9, 10. */
 struct placement_reply placement_grade(const uint8_t *book, size_t book_len, const uint8_t *matching, size_t matching_len);
+
+/* value: how many rotations a book has, which is the number of bytes of a set. Refused: the book. */
+struct placement_reply placement_rotation_count(const uint8_t *book, size_t book_len);
 
 /* The list of rotations, in order of number: each as its number of pairs and then student and mentor bytes.
  * value: how many rotations. Refused: the book, then 14 (out must hold the whole list; 2 bytes a pair and 1 a rotation). */

@@ -28,6 +28,7 @@ pub use frame::lists_from;
 pub use lists::check_list;
 pub use lists::first_faulty;
 pub use person::check_man;
+pub use person::check_person;
 pub use person::check_woman;
 pub use person::man_list;
 pub use person::woman_list;
