@@ -10,8 +10,7 @@
 #include <stdlib.h>
 
 /* The largest book with its matching, and one byte more, so that a matching that is too long is seen. */
-#define LARGEST_INPUT 8771
-#define LARGEST_N 64
+#define LARGEST_INPUT (PLACEMENT_LARGEST_BOOK + PLACEMENT_LARGEST_N + 1)
 
 /* The bytes of the book at the front of the input. All of it, where its first two bytes are no good or it is too
  * short: the library then says what is wrong. */
@@ -21,13 +20,44 @@ static size_t book_length(const uint8_t *input, size_t length)
         return length;
     }
     struct placement_reply size = placement_book_size(input[1]);
-    return size.number == 0 && size.value < length ? size.value : length;
+    return size.number == PLACEMENT_FINE && size.value < length ? size.value : length;
+}
+
+/* Reads a number of a student or mentor. A request has a byte for each, so one that no byte holds would become
+ * another's: it is not taken, nor is anything but digits. */
+static int read_number(const char *text, uint8_t *number)
+{
+    char *end;
+    unsigned long value = strtoul(text, &end, 10);
+    if (text[0] < '0' || text[0] > '9' || *end != '\0' || value > UINT8_MAX) {
+        fprintf(stderr, "repair: '%s' is no number of a student or mentor\n", text);
+        return 0;
+    }
+    *number = (uint8_t)value;
+    return 1;
+}
+
+static void print_refusal(struct placement_reply reply)
+{
+    switch (reply.number) {
+    case PLACEMENT_UNSTABLE:
+        printf("refused: student %zu and mentor %zu block the matching\n", reply.place, reply.second);
+        break;
+    case PLACEMENT_UNKNOWN:
+        printf("refused: no student or no mentor has that number\n");
+        break;
+    case PLACEMENT_APART:
+        printf("refused: the two are not together\n");
+        break;
+    default:
+        printf("refused %zu, place %zu\n", reply.number, reply.place);
+    }
 }
 
 static int print_answer(struct placement_reply reply, const uint8_t *old, const uint8_t *new, const int8_t *gains, size_t n)
 {
-    if (reply.number != 0) {
-        printf("refused %zu, place %zu %zu\n", reply.number, reply.place, reply.second);
+    if (reply.number != PLACEMENT_FINE) {
+        print_refusal(reply);
         return 1;
     }
     if (reply.letter == 'F') {
@@ -46,11 +76,18 @@ static int print_answer(struct placement_reply reply, const uint8_t *old, const 
 int main(int argc, char **argv)
 {
     static uint8_t input[LARGEST_INPUT];
-    uint8_t repaired[LARGEST_N];
-    int8_t gains[LARGEST_N];
-    FILE *file = argc == 4 ? fopen(argv[1], "rb") : NULL;
-    if (file == NULL) {
+    uint8_t request[2], repaired[PLACEMENT_LARGEST_N];
+    int8_t gains[PLACEMENT_LARGEST_N];
+    if (argc != 4) {
         fprintf(stderr, "usage: repair FILE STUDENT MENTOR\n");
+        return 2;
+    }
+    if (!read_number(argv[2], &request[0]) || !read_number(argv[3], &request[1])) {
+        return 2;
+    }
+    FILE *file = fopen(argv[1], "rb");
+    if (file == NULL) {
+        perror(argv[1]);
         return 2;
     }
     size_t length = fread(input, 1, sizeof input, file);
@@ -58,7 +95,6 @@ int main(int argc, char **argv)
 
     size_t book = book_length(input, length);
     const uint8_t *matching = input + book;
-    uint8_t request[2] = {(uint8_t)atoi(argv[2]), (uint8_t)atoi(argv[3])};
     struct placement_reply reply = placement_repair(input, book, matching, length - book, request, sizeof request,
                                                     repaired, sizeof repaired, gains, sizeof gains);
     return print_answer(reply, matching, repaired, gains, length - book);

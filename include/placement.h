@@ -3,30 +3,13 @@
  * A book is the encoded preference lists of n students and n mentors, n from 0 to 64. A matching is n bytes:
  * byte i is the mentor of student i. A byte slice is passed as a pointer and a length; a null pointer goes with
  * length 0 only. Result buffers may not overlap each other or an input. No function keeps a pointer, allocates,
- * or touches anything but the memory that it is lent.
+ * or touches anything but the memory that it is lent and the stack.
  *
  * Every call answers with a struct placement_reply. `number` is 0, or the number of the first rule that the
  * input breaks, in the order given at each function; then `place` (and for rule 10 `second`) says where, every
  * other field is 0, and no byte of a result buffer has been written. On success nothing past the result is written.
  *
- *   No.  word       when                                                          place
- *    1   short      a book under 2 bytes, or under its size                        bytes given
- *    2   edition    byte 0 is not 1                                                0
- *    3   crowd      n over 64                                                      1
- *    4   overlong   bytes past the size                                            size
- *    5   directory  a directory pair is not as it has to be                        first byte of the pair
- *    6   stranger   a list entry is n or more                                      that byte
- *    7   repeat     an entry stands earlier in its list                            that byte
- *    8   length     the matching is not n bytes                                    0
- *    9   clash      a mentor is n or more, or used by an earlier byte              first such byte
- *   10   unstable   a pair blocks                                                  lowest blocking student;
- *                                                                                  second: his best-ranked blocking mentor
- *   11   unknown    no student, mentor or rotation has the number                  0
- *   12   apart      the two are not together                                       0
- *   13   one pair   the request is not two bytes, student then mentor              0
- *   14   sheet      a result buffer is too short                                   0
- *   15   marks      the set has a wrong length or a byte over 1                    0
- *   16   open       the set is not closed                                          0
+ * Numbers of students, mentors and rotations that are passed as size_t may be any: those that nobody has are refused.
  */
 #ifndef PLACEMENT_H
 #define PLACEMENT_H
@@ -38,8 +21,47 @@
 extern "C" {
 #endif
 
+/* The version of this interface. The second number rises where something is added, the first where a program that was
+ * written for the version before may have to be changed. */
+#define PLACEMENT_VERSION_MAJOR 1
+#define PLACEMENT_VERSION_MINOR 0
+
+/* The largest of each over all books: buffers of these sizes are always long enough. */
+#define PLACEMENT_LARGEST_N 64                /* students, and mentors: bytes of a matching, entries of the gains */
+#define PLACEMENT_LARGEST_BOOK 8706           /* bytes of a book */
+#define PLACEMENT_LARGEST_SHEET 715           /* bytes of a sheet */
+#define PLACEMENT_LARGEST_ROTATION_COUNT 2016 /* rotations, n(n - 1)/2: bytes of a set */
+#define PLACEMENT_LARGEST_ROTATION_LIST 10080 /* bytes of a list of rotations: five for each of so many */
+
+/* The bytes of stack that a call needs, at most, whatever n is: as tests/stack measures the archive, rounded up. Nothing
+ * is allocated otherwise, so the tables of a call lie on the stack of the thread that makes it. */
+#define PLACEMENT_STACK_BOOKS 1024       /* check_book, book_size, write_book, student_list, mentor_list */
+#define PLACEMENT_STACK_MATCHINGS 45056  /* check_matching, the extremes, repair, grade, rotation_count, sheet */
+#define PLACEMENT_STACK_ROTATIONS 106496 /* rotations, precedes, set_to_matching, matching_to_set: the largest */
+
+/* The rules by number. Beside each: when it is broken, and the place given, 0 where none is said. */
+enum placement_refusal {
+    PLACEMENT_FINE = 0,      /* nothing is refused */
+    PLACEMENT_SHORT = 1,     /* a book under 2 bytes, or under its size. Place: the bytes given */
+    PLACEMENT_EDITION = 2,   /* byte 0 is not 1 */
+    PLACEMENT_CROWD = 3,     /* n over 64. Place: 1 */
+    PLACEMENT_OVERLONG = 4,  /* bytes past the size. Place: the size */
+    PLACEMENT_DIRECTORY = 5, /* a directory pair is not as it has to be. Place: the first byte of the pair */
+    PLACEMENT_STRANGER = 6,  /* a list entry is n or more. Place: that byte */
+    PLACEMENT_REPEAT = 7,    /* an entry stands earlier in its list. Place: that byte */
+    PLACEMENT_LENGTH = 8,    /* the matching is not n bytes */
+    PLACEMENT_CLASH = 9,     /* a mentor is n or more, or used by an earlier byte. Place: the first such byte */
+    PLACEMENT_UNSTABLE = 10, /* a pair blocks. Place: the lowest blocking student; second: his best-ranked such mentor */
+    PLACEMENT_UNKNOWN = 11,  /* no student, mentor or rotation has the number */
+    PLACEMENT_APART = 12,    /* the two are not together */
+    PLACEMENT_ONE_PAIR = 13, /* the request is not two bytes, student then mentor */
+    PLACEMENT_SHEET = 14,    /* a result buffer is too short */
+    PLACEMENT_MARKS = 15,    /* the set has a wrong length or a byte over 1 */
+    PLACEMENT_OPEN = 16      /* the set is not closed */
+};
+
 struct placement_reply {
-    size_t number; /* 0, or the rule that is broken */
+    size_t number; /* an enum placement_refusal: 0, or the rule that is broken */
     size_t place;  /* its place */
     size_t second; /* the mentor of rule 10 */
     size_t letter; /* 'U', 'D' or 'F' of a repair, else 0 */
@@ -59,8 +81,8 @@ struct placement_reply placement_write_book(size_t n, const uint8_t *lists, size
 
 /* One student's list, and one mentor's: place is the offset of the list in the book, value its number of bytes.
  * Refused: the book, then 11. */
-struct placement_reply placement_student_list(const uint8_t *book, size_t book_len, uint8_t student);
-struct placement_reply placement_mentor_list(const uint8_t *book, size_t book_len, uint8_t mentor);
+struct placement_reply placement_student_list(const uint8_t *book, size_t book_len, size_t student);
+struct placement_reply placement_mentor_list(const uint8_t *book, size_t book_len, size_t mentor);
 
 /* Says whether a matching is stable. Refused: the book, then 8, 9, 10. value: 0. */
 struct placement_reply placement_check_matching(const uint8_t *book, size_t book_len, const uint8_t *matching, size_t matching_len);
@@ -80,6 +102,9 @@ struct placement_reply placement_repair(const uint8_t *book, size_t book_len, co
 /* value: the grade of a stable matching. Refused: the book, then 8, 9, 10. */
 struct placement_reply placement_grade(const uint8_t *book, size_t book_len, const uint8_t *matching, size_t matching_len);
 
+/* value: how many rotations a book has, which is the number of bytes of a set. Refused: the book. */
+struct placement_reply placement_rotation_count(const uint8_t *book, size_t book_len);
+
 /* The list of rotations, in order of number: each as its number of pairs and then student and mentor bytes.
  * value: how many rotations. Refused: the book, then 14 (out must hold the whole list; 2 bytes a pair and 1 a rotation). */
 struct placement_reply placement_rotations(const uint8_t *book, size_t book_len, uint8_t *out, size_t out_len);
@@ -97,8 +122,8 @@ struct placement_reply placement_matching_to_set(const uint8_t *book, size_t boo
                                                  uint8_t *out, size_t out_len);
 
 /* The sheet of a book with a matching after it, as the sheet program prints it, to out. value: bytes written.
- * Refused: 14 only; 715 bytes are always enough. A bad book or matching is no refusal here: number is 0, and the sheet
- * is the line `refused N`, N being the number of the rule. */
+ * Refused: 14 only. A bad book or matching is no refusal here: number is 0, and the sheet is the line `refused N`, N being
+ * the number of the rule. */
 struct placement_reply placement_sheet(const uint8_t *input, size_t input_len, uint8_t *out, size_t out_len);
 
 #ifdef __cplusplus

@@ -52,5 +52,6 @@ void test_rotations(void);
 void test_sets(void);
 void test_repair(void);
 void test_sheet(void);
+void test_header(void);
 
 #endif

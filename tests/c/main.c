@@ -12,6 +12,7 @@ int main(void)
     test_sets();
     test_repair();
     test_sheet();
+    test_header();
     printf("C: %lu checks, %lu failed\n", checks, failures);
     return failures != 0;
 }

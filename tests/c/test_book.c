@@ -101,14 +101,21 @@ static void lists(void)
     static const uint8_t none[2] = {1, 0};
     struct book table_1 = book_of(7, table_1_lists), bad = with(table_1, 60, 7), large = xor_64();
     const uint8_t *book = fenced(0, table_1.bytes, 156);
-    for (uint8_t k = 0; k < 7; k++) {
-        struct placement_reply student = {0, 58 + 7 * (size_t)k, 0, 0, 7}, mentor = {0, 107 + 7 * (size_t)k, 0, 0, 7};
+    for (size_t k = 0; k < 7; k++) {
+        struct placement_reply student = {0, 58 + 7 * k, 0, 0, 7}, mentor = {0, 107 + 7 * k, 0, 0, 7};
         EXPECT(placement_student_list(book, 156, k), student);
         EXPECT(placement_mentor_list(book, 156, k), mentor);
     }
     EXPECT(placement_student_list(book, 156, 7), refused(11, 0));
     EXPECT(placement_mentor_list(book, 156, 7), refused(11, 0));
     EXPECT(placement_student_list(book, 156, 255), refused(11, 0));
+    /* A number that no byte holds is not another's: 256 is not 0. */
+    const size_t none_has[] = {256, 257, 256 + 6, 65536, (size_t)1 << 32, SIZE_MAX - 255, SIZE_MAX};
+    for (size_t k = 0; k < sizeof none_has / sizeof none_has[0]; k++) {
+        EXPECT(placement_student_list(book, 156, none_has[k]), refused(11, 0));
+        EXPECT(placement_mentor_list(book, 156, none_has[k]), refused(11, 0));
+        EXPECT(placement_student_list(book, 155, none_has[k]), refused(1, 155));
+    }
     EXPECT(placement_mentor_list(book, 155, 0), refused(1, 155));
     EXPECT(placement_student_list(bad.bytes, 156, 200), refused(6, 60));
     EXPECT(placement_mentor_list(bad.bytes, 156, 200), refused(6, 60));

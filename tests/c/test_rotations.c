@@ -1,4 +1,4 @@
-/* The list of rotations and their order. */
+/* How many rotations there are, their list and their order. */
 #include "books.h"
 #include "check.h"
 
@@ -11,6 +11,32 @@ static const uint8_t table_1_rotations[32] = {2, 0, 5, 6, 2, 3, 1, 4, 6, 5, 5, 0
 static struct placement_reply list(struct book book, size_t room)
 {
     return placement_rotations(fenced(0, book.bytes, book.length), book.length, lend(&out, room), room);
+}
+
+static struct placement_reply count(struct book book)
+{
+    return placement_rotation_count(fenced(0, book.bytes, book.length), book.length);
+}
+
+/* Table 1 has 6 (document 01); the xor lists of 64 have 64 * 63 / 2. */
+static void counts(void)
+{
+    struct book table_1 = book_of(7, table_1_lists), large = xor_64();
+    EXPECT(count(table_1), value(6));
+    EXPECT(count(book_of(0, "")), value(0));
+    EXPECT(count(book_of(1, "00")), value(0));
+    EXPECT(count(book_of(2, "01101001")), value(1));
+    EXPECT(count(book_of(2, "01010101")), value(0));
+    EXPECT(count(large), value(2016));
+    EXPECT(count(cyclic_64()), value(63));
+    EXPECT(placement_rotation_count(NULL, 0), refused(1, 0));
+    EXPECT(placement_rotation_count(table_1.bytes, 155), refused(1, 155));
+    EXPECT(count(with(table_1, 0, 2)), refused(2, 0));
+    EXPECT(count(with(table_1, 1, 65)), refused(3, 1));
+    EXPECT(count(with(table_1, 1, 6)), refused(4, 2 + 8 * 6 + 2 * 36));
+    EXPECT(count(with(table_1, 54, 0)), refused(5, 54));
+    EXPECT(count(with(table_1, 155, 7)), refused(6, 155));
+    EXPECT(count(with(large, 8705, large.bytes[8704])), refused(7, 8705));
 }
 
 static void lists(void)
@@ -123,6 +149,7 @@ static void order_of_large(void)
 
 void test_rotations(void)
 {
+    counts();
     lists();
     lowest_first();
     cyclic();

@@ -158,10 +158,18 @@ LISTS = [
     ("Table 1, number 7", MENTOR_LIST, TABLE_1, 7, refused(11)),
     ("Table 1, number 255", STUDENT_LIST, TABLE_1, 255, refused(11)),
     ("Table 1, number 255", MENTOR_LIST, TABLE_1, 255, refused(11)),
+    # A number that no byte holds is not another's: 256 is not 0, nor 65,286 6
+    ("Table 1, number 256", STUDENT_LIST, TABLE_1, 256, refused(11)),
+    ("Table 1, number 256", MENTOR_LIST, TABLE_1, 256, refused(11)),
+    ("Table 1, number 65286", STUDENT_LIST, TABLE_1, 65286, refused(11)),
+    ("Table 1, number 65286", MENTOR_LIST, TABLE_1, 65286, refused(11)),
+    ("n = 64, number 319", STUDENT_LIST, FIRSTS, 319, refused(11)),
+    ("n = 64, number 319", MENTOR_LIST, FIRSTS, 319, refused(11)),
     # The book before 11
     ("no bytes", STUDENT_LIST, [], 0, refused(1)),
     ("edition 2", MENTOR_LIST, put(TWO, {0: 2}), 2, refused(2)),
     ("n = 65", STUDENT_LIST, put(TWO, {1: 65}), 66, refused(3, 1)),
+    ("n = 65, number 256", MENTOR_LIST, put(TWO, {1: 65}), 256, refused(3, 1)),
     ("second directory pair", MENTOR_LIST, put(TWO, {8: 3}), 0, refused(5, 6)),
     ("second entry is the first", STUDENT_LIST, put(TWO, {19: 0}), 2, refused(7, 19)),
 ]

@@ -12,12 +12,13 @@
     MENTOR_BEST,
     REPAIR,
     GRADE,
+    ROTATION_COUNT,
     ROTATIONS,
     PRECEDES,
     SET_TO_MATCHING,
     MATCHING_TO_SET,
     SHEET,
-) = range(15)
+) = range(16)
 
 
 def fine(value, place=0):

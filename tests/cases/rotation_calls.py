@@ -1,4 +1,4 @@
-"""Cases of the calls on rotations: their list, their order, sets and matchings each from the other.
+"""Cases of the calls on rotations: their number, their list, their order, sets and matchings each from the other.
 
 Table 1's rotations, its set 0, 1, 2 and set 2 alone are those of document 01, section 'Checked by hand'; small books
 are worked out by hand; the table of precedence and the eleven matchings of the closed sets are from tests/independent,
@@ -7,7 +7,7 @@ which goes another way; the list of the large book is worked out here by documen
 import itertools
 
 from cases.books import NOBODY, ONE, SAME, TABLE_1, TWO, book, book_of, digits, put
-from cases.form import MATCHING_TO_SET, PRECEDES, ROTATIONS, SET_TO_MATCHING, case, fine, refused
+from cases.form import MATCHING_TO_SET, PRECEDES, ROTATION_COUNT, ROTATIONS, SET_TO_MATCHING, case, fine, refused
 
 # Two pairs of students who exchange their mentors, apart from each other: two rotations, neither before the other
 APART = book_of("0123 1032 2301 3210 1023 0132 3210 2301")
@@ -63,6 +63,25 @@ TABLE_1_LIST = [
 ]
 LARGE_LIST = rotations()
 assert len(LARGE_LIST) == 10080 and sum(LARGE_LIST) == 258048  # as tests/independent has it
+
+# How many: (bytes of the book, reply); the value is the number of rotations
+COUNTED = [
+    (TABLE_1, fine(6)),
+    (NOBODY, fine(0)),
+    (ONE, fine(0)),
+    (TWO, fine(1)),
+    (SAME, fine(0)),
+    (APART, fine(2)),
+    (LARGE, fine(2016)),
+    # The book's rules
+    ([], refused(1)),
+    (put(TWO, {0: 2}), refused(2)),
+    (put(TWO, {1: 65}), refused(3, 1)),
+    (TWO + [0], refused(4, 26)),
+    (put(TWO, {8: 3}), refused(5, 6)),
+    (put(TWO, {18: 2}), refused(6, 18)),
+    (put(TWO, {19: 0}), refused(7, 19)),
+]
 
 # The list: (bytes of the book, room, reply, bytes written); the value is the number of rotations
 LISTED = [
@@ -163,7 +182,8 @@ TO_SET += [
     (TABLE_1, "5463102", 5, refused(14), []),
 ]
 
-CASES = [case(ROTATIONS, reply, b, room=room, out=out) for b, room, reply, out in LISTED]
+CASES = [case(ROTATION_COUNT, reply, b) for b, reply in COUNTED]
+CASES += [case(ROTATIONS, reply, b, room=room, out=out) for b, room, reply, out in LISTED]
 CASES += [case(PRECEDES, reply, b, numbers=pair) for b, pair, reply in ORDER]
 CASES += [case(SET_TO_MATCHING, reply, b, s, room=room, out=out) for b, s, room, reply, out in TO_MATCHING]
 CASES += [case(MATCHING_TO_SET, reply, b, digits(m), room=room, out=out) for b, m, room, reply, out in TO_SET]

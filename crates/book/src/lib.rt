@@ -33,6 +33,7 @@ pub use pair::pair_in;
 pub use pair::woman_numbered;
 pub use pair::woman_of;
 pub use person::check_man;
+pub use person::check_person;
 pub use person::check_woman;
 pub use person::man_list;
 pub use person::woman_list;

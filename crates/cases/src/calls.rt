@@ -52,7 +52,7 @@ fn run_in(
     print_text(b"\n");
 }
 
-// Makes a call with what it takes of the two numbers, the parts x, y, z and the buffers. From 14 on it is the sheet.
+// Makes a call with what it takes of the two numbers, the parts x, y, z and the buffers. From 15 on it is the sheet.
 fn make(
     call: u8,
     first: usize,
@@ -67,17 +67,18 @@ fn make(
         0 => placement::placement_check_book(x),
         1 => placement::placement_book_size(first),
         2 => placement::placement_write_book(first, x, out),
-        3 => placement::placement_student_list(x, (first % 256) as u8),
-        4 => placement::placement_mentor_list(x, (first % 256) as u8),
+        3 => placement::placement_student_list(x, first),
+        4 => placement::placement_mentor_list(x, first),
         5 => placement::placement_check_matching(x, y),
         6 => placement::placement_student_best(x, out),
         7 => placement::placement_mentor_best(x, out),
         8 => placement::placement_repair(x, y, z, out, gains),
         9 => placement::placement_grade(x, y),
-        10 => placement::placement_rotations(x, out),
-        11 => placement::placement_precedes(x, first, second),
-        12 => placement::placement_set_to_matching(x, y, out),
-        13 => placement::placement_matching_to_set(x, y, out),
+        10 => placement::placement_rotation_count(x),
+        11 => placement::placement_rotations(x, out),
+        12 => placement::placement_precedes(x, first, second),
+        13 => placement::placement_set_to_matching(x, y, out),
+        14 => placement::placement_matching_to_set(x, y, out),
         _ => placement::placement_sheet(x, out),
     }
 }

@@ -1,6 +1,6 @@
 -- Sums over the numbers below a bound when the summands rise. Assumes nothing.
 use Prim.Native.Nat.{ℕ, zero, suc, _+_, _*_, _≤_, _<_}
-use mathlib.Core.Path.{_≡_, refl, sym}
+use mathlib.Core.Path.{_≡_, refl}
 use native.Mathlib.Omega.{arith}
 use native.Mathlib.Nat.{suc-mul}
 use lib.Dec.{eqb}
@@ -12,17 +12,6 @@ use Rattle.laws.specs.SumLaws.{sum-le, sum-tight}
 -- one summand rises, and so does the sum
 pub sum-lt : (n : ℕ) (p q : ℕ → ℕ) → ((i : ℕ) → i < n → p i ≤ q i) → (x : ℕ) → x < n → p x < q x → sum n p < sum n q
 sum-lt n p q h x u l = split (sum n q) (sum n p) (λ g. absurd (omega (arith, sum-tight n p q h g x u))) (λ g. g)
-
--- two summands rise: the sum rises by two at least
-pub sum-two : (n : ℕ) (p q : ℕ → ℕ) → ((i : ℕ) → i < n → p i ≤ q i) → (x y : ℕ) → x < n → y < n → (x ≡ y → ⊥) → p x < q x → p y < q y → sum n p + 2 ≤ sum n q
-sum-two n p q h x y u v ne k l =
-    let m : ℕ → ℕ = λ i. pick (eqb i x) (q i) (p i) in
-    let at : m x ≡ q x = rw (eq-eqb x x refl) in
-    let off : (i : ℕ) → (i ≡ x → ⊥) → m i ≡ p i = λ i d. rw (ne-eqb i x d) in
-    let on : (i : ℕ) → i ≡ x → m i ≡ q i = λ i d. rw (eq-eqb i x d) in
-    let low : (i : ℕ) → i < n → p i ≤ m i = λ i w. same i x (λ e. omega (arith, on i e, h i w)) (λ e. omega (arith, off i e)) in
-    let high : (i : ℕ) → i < n → m i ≤ q i = λ i w. same i x (λ e. omega (arith, on i e)) (λ e. omega (arith, off i e, h i w)) in
-    omega (arith, sum-lt n p m low x u (omega arith), sum-lt n m q high y v (omega (arith, off y (λ e. ne (sym e)))))
 
 -- what rises by at most b i each rises by at most the sum of b
 pub sum-most : (n : ℕ) (p q b : ℕ → ℕ) → ((i : ℕ) → i < n → q i ≤ p i + b i) → sum n q ≤ sum n p + sum n b

@@ -2,14 +2,17 @@
 use extremes::man_optimal_places;
 use extremes::woman_optimal_places;
 use format::Instance;
+use matchings::Places;
 use rotation_pass::pass;
 ghost use mathlib.Core.Path.{_≡_};
 ghost use lib.ListN.{length};
 ghost use Rattle.laws.specs.Values.{vec};
 ghost use Rattle.stable_theory.specs.Stable.Vector.{Stable};
+ghost use Rattle.stable_theory.specs.Least.Optimal.{proposer-optimal};
 ghost use Rattle.format.specs.Format.{largest};
 ghost use Rattle.format.specs.Record.{Record, lent};
 ghost use Rattle.instances.specs.Usable.{Usable, marketIn};
+ghost use Rattle.extremes.specs.Places.{PlacesIn};
 ghost use Rattle.pair_groups.specs.Groups.{GroupsOf};
 
 // How many rotations there are, and who answers for each man: for the repair down of his pair and for the repair up,
@@ -38,6 +41,25 @@ pub fn group<'a>(
     ensures { λ R r. ⌜ GroupsOf R (vec men) r ⌝ }
 {
     let best = man_optimal_places(n, mlists, wlists, wranks);
+    group_from(n, mlists, mranks, wlists, wranks, best, men)
+}
+
+// The same from the student-best places.
+pub fn group_from<'a>(
+    n: usize,
+    mlists: &'a [u16],
+    mranks: &'a [u16],
+    wlists: &'a [u16],
+    wranks: &'a [u16],
+    best: Places,
+    men: [u16; Instance::LARGEST],
+) -> Groups
+    ghost { Record }
+    requires { λ R. ⌜ lent n mlists mranks wlists wranks ≡ R ⌝ }
+    requires { λ R. ⌜ Usable R × Stable (marketIn R) (vec men) ⌝ }
+    requires { λ R. ⌜ PlacesIn n (marketIn R) (proposer-optimal (marketIn R)) best ⌝ }
+    ensures { λ R r. ⌜ GroupsOf R (vec men) r ⌝ }
+{
     let worst = woman_optimal_places(n, mlists, mranks, wlists);
     let ends = worst.men;
     let mut p = best.men;

@@ -4,3 +4,4 @@ mod groups;
 
 pub use groups::Groups;
 pub use groups::group;
+pub use groups::group_from;

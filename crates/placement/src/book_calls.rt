@@ -1,4 +1,5 @@
 // Books: the check, the size, the writer, one person's list.
+use book::check_person;
 use book::man_place;
 use book::people_in;
 use book::woman_place;
@@ -51,23 +52,31 @@ pub extern "C" fn placement_write_book(n: usize, lists: &[u8], out: &mut [u8]) -
     verdict_reply(checked, 0, book::size_of(n))
 }
 
-// A student's list: its offset in the book and its number of bytes.
+// A student's list: its offset in the book and its number of bytes. The number is tried before it is made a byte.
 #[no_mangle]
-pub extern "C" fn placement_student_list(book: &[u8], student: u8) -> Reply
+pub extern "C" fn placement_student_list(book: &[u8], student: usize) -> Reply
     ensures { λ r. ⌜ r ≡ replyFor (checkPerson (now₀ book) student) (offset (now₀ book) student) (listLength (now₀ book) student) ⌝ }
 {
-    let checked = book::check_man(book, Man(student));
-    let place = man_place(book, Man(student));
+    let checked = check_person(book, student);
+    let Checked::Fine = checked else {
+        return verdict_reply(checked, 0, 0);
+    };
+    let number = student as u8;
+    let place = man_place(book, Man(number));
     verdict_reply(checked, place.at, place.len)
 }
 
 // A mentor's list.
 #[no_mangle]
-pub extern "C" fn placement_mentor_list(book: &[u8], mentor: u8) -> Reply
+pub extern "C" fn placement_mentor_list(book: &[u8], mentor: usize) -> Reply
     ensures { λ r. ⌜ r ≡ replyFor (checkPerson (now₀ book) mentor) (offset (now₀ book) (people (now₀ book) + mentor))
         (listLength (now₀ book) (people (now₀ book) + mentor)) ⌝ }
 {
-    let checked = book::check_woman(book, Woman(mentor));
-    let place = woman_place(book, Woman(mentor));
+    let checked = check_person(book, mentor);
+    let Checked::Fine = checked else {
+        return verdict_reply(checked, 0, 0);
+    };
+    let number = mentor as u8;
+    let place = woman_place(book, Woman(number));
     verdict_reply(checked, place.at, place.len)
 }

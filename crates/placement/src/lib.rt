@@ -21,6 +21,7 @@ pub use matching_calls::placement_student_best;
 pub use repair_calls::placement_grade;
 pub use repair_calls::placement_repair;
 pub use rotation_calls::placement_precedes;
+pub use rotation_calls::placement_rotation_count;
 pub use rotation_calls::placement_rotations;
 pub use set_calls::placement_matching_to_set;
 pub use set_calls::placement_set_to_matching;

@@ -14,7 +14,7 @@ use Rattle.format.specs.Format.{people}
 use Rattle.format.specs.WellFormed.{WellFormed}
 use Rattle.matchings.specs.Matching.{womanOf, checkMatching}
 use Rattle.matchings.specs.Laws.StableCheck.{fine-stable}
-use Rattle.rotations.specs.RotationList.{listReply, listBuffer}
+use Rattle.rotations.specs.RotationList.{countReply, listReply, listBuffer}
 use Rattle.rotations.specs.Precedence.{precedenceReply}
 use Rattle.rotations.specs.Sets.{checkSet, setMatching, matchingSet}
 use Rattle.rotations.specs.ByteRotation.{Pairs, pairAt, NextIn, CycleIn, writtenFrom, ExposedIn, eliminated, NumberedIn, rotationNumber, bytesOf, endToEnd, RunTo, OneOf, EachOnce, PrecedesIn, SetIn, ClosedIn, Exactly}
@@ -24,7 +24,7 @@ use Rattle.rotations.specs.Laws.Eliminations.{eliminated-next, eliminate
 use Rattle.rotations.specs.Laws.EliminationRuns.{run-to-stable}
 use Rattle.rotations.specs.Laws.Numberings.{listed, numbered-one, numbered-listed}
 use Rattle.rotations.specs.Laws.NumberedRotations.{numbered-all, numbered-once, numbered-exposed}
-use Rattle.rotations.specs.Laws.RotationBytes.{reply-count, buffer-bytes, bytes-at, bytes-read}
+use Rattle.rotations.specs.Laws.RotationBytes.{count-numbered, reply-count, buffer-bytes, bytes-at, bytes-read}
 use Rattle.rotations.specs.Laws.NumberedOrder.{answer-yes, answer-no, itself-not, accepted-closed, refused-open}
 use Rattle.rotations.specs.Laws.NumberedRuns.{run-reaches, run-exactly, run-each-once, run-numbered, set-leads, closed-round, stable-round}
 
@@ -68,7 +68,11 @@ module _ (b : List ℕ) (formed : WellFormed b) where
 
   -- Its rotations, in order of number
   module _ (l : List Pairs) (numbered : NumberedIn b l) where
-    -- the reply for the list of rotations is how many there are
+    -- the reply for their number is how many there are
+    pub count-reply : countReply b ≡ gives (length l)
+    count-reply = count-numbered formed numbered
+
+    -- and so is the reply for the list of rotations
     pub list-reply : (room : ℕ) → length (endToEnd l) ≤ room → listReply b room ≡ gives (length l)
     list-reply room fits = reply-count formed numbered fits
 

@@ -1,5 +1,6 @@
 -- The list of rotations as document 01 has it: each rotation by its number of pairs and then student and mentor bytes,
--- from its lowest student, end to end in order of number; the reply gives how many there are. Assumes nothing.
+-- from its lowest student, end to end in order of number; the reply gives how many there are. Their number can also be
+-- asked for alone. Assumes nothing.
 use Prim.Native.Nat.{ℕ, zero, suc}
 use mathlib.Core.List.{List, [], _∷_, _++_}
 use lib.ListN.{length}
@@ -27,6 +28,10 @@ bytesUpto ρ (suc k) = bytesUpto ρ k ++ rotationBytes (ρ k)
 -- How many rotations a book has
 abbrev pub rotationCount : List ℕ → ℕ
 rotationCount b = total (market b)
+
+-- The reply for a book where only their number is asked for: the book's rules, then how many
+abbrev pub countReply : List ℕ → Outcome ℕ
+countReply b = after (checkBook b) (rotationCount b)
 
 -- The list of the rotations of a book
 unfoldable pub listBytes : List ℕ → List ℕ

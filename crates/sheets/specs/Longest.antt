@@ -1,5 +1,6 @@
 -- How long a sheet can be, from the largest n. Assumes nothing.
 use Prim.Native.Nat.{ℕ, _+_, _*_}
+use mathlib.Core.Path.{_≡_, refl}
 use lib.Dec.{ltb}
 use Rattle.laws.specs.Choice.{pick}
 use Rattle.format.specs.Format.{largest}
@@ -19,3 +20,7 @@ pairMost = 3 * digits + 5
 -- How many bytes a sheet can have
 abbrev pub longest : ℕ
 longest = topMost + pairMost * largest
+
+-- in numbers
+pub longest-in-numbers : longest ≡ 715
+longest-in-numbers = refl

@@ -16,8 +16,8 @@ mod c {
             out: *mut u8,
             out_len: usize,
         ) -> Reply;
-        pub fn placement_student_list(book: *const u8, book_len: usize, student: u8) -> Reply;
-        pub fn placement_mentor_list(book: *const u8, book_len: usize, mentor: u8) -> Reply;
+        pub fn placement_student_list(book: *const u8, book_len: usize, student: usize) -> Reply;
+        pub fn placement_mentor_list(book: *const u8, book_len: usize, mentor: usize) -> Reply;
         pub fn placement_check_matching(
             book: *const u8,
             book_len: usize,
@@ -39,6 +39,7 @@ mod c {
             gains_len: usize,
         ) -> Reply;
         pub fn placement_grade(book: *const u8, book_len: usize, matching: *const u8, matching_len: usize) -> Reply;
+        pub fn placement_rotation_count(book: *const u8, book_len: usize) -> Reply;
         pub fn placement_rotations(book: *const u8, book_len: usize, out: *mut u8, out_len: usize) -> Reply;
         pub fn placement_precedes(book: *const u8, book_len: usize, first: usize, second: usize) -> Reply;
         pub fn placement_set_to_matching(
@@ -93,11 +94,11 @@ pub fn write_book(n: usize, lists: &[u8], out: &mut [u8]) -> Reply {
     unsafe { c::placement_write_book(n, at(lists), lists.len(), at_mut(out), out.len()) }
 }
 
-pub fn student_list(book: &[u8], student: u8) -> Reply {
+pub fn student_list(book: &[u8], student: usize) -> Reply {
     unsafe { c::placement_student_list(at(book), book.len(), student) }
 }
 
-pub fn mentor_list(book: &[u8], mentor: u8) -> Reply {
+pub fn mentor_list(book: &[u8], mentor: usize) -> Reply {
     unsafe { c::placement_mentor_list(at(book), book.len(), mentor) }
 }
 
@@ -133,6 +134,10 @@ pub fn repair(book: &[u8], matching: &[u8], request: &[u8], out: &mut [u8], gain
 
 pub fn grade(book: &[u8], matching: &[u8]) -> Reply {
     unsafe { c::placement_grade(at(book), book.len(), at(matching), matching.len()) }
+}
+
+pub fn rotation_count(book: &[u8]) -> Reply {
+    unsafe { c::placement_rotation_count(at(book), book.len()) }
 }
 
 pub fn rotations(book: &[u8], out: &mut [u8]) -> Reply {

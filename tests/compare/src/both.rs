@@ -103,7 +103,7 @@ impl Both {
         );
     }
 
-    pub fn student_list(&mut self, book: &[u8], k: u8) {
+    pub fn student_list(&mut self, book: &[u8], k: usize) {
         self.replies(
             &format!("student_list {k}"),
             &[book],
@@ -112,7 +112,7 @@ impl Both {
         );
     }
 
-    pub fn mentor_list(&mut self, book: &[u8], k: u8) {
+    pub fn mentor_list(&mut self, book: &[u8], k: usize) {
         self.replies(&format!("mentor_list {k}"), &[book], archive::mentor_list(book, k), calls::mentor_list(book, k));
     }
 
@@ -132,6 +132,10 @@ impl Both {
 
     pub fn mentor_best(&mut self, book: &[u8], room: usize) {
         self.lending("mentor_best", &[book], room, |o| archive::mentor_best(book, o), |o| calls::mentor_best(book, o));
+    }
+
+    pub fn rotation_count(&mut self, book: &[u8]) {
+        self.replies("rotation_count", &[book], archive::rotation_count(book), calls::rotation_count(book));
     }
 
     pub fn rotations(&mut self, book: &[u8], room: usize) {

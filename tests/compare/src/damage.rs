@@ -65,10 +65,11 @@ fn ask_all(both: &mut Both, sound: &Sound, damaged: &[u8], matching: &[u8]) {
     both.check_book(damaged);
     both.check_matching(damaged, matching);
     both.grade(damaged, matching);
-    both.student_list(damaged, byte);
+    both.student_list(damaged, byte.into());
     both.mentor_list(damaged, 0);
     both.student_best(damaged, n);
     both.mentor_best(damaged, n.saturating_sub(1));
+    both.rotation_count(damaged);
     both.rotations(damaged, sound.poset.list_size());
     both.precedes(damaged, 0, usize::MAX);
     both.set_to_matching(damaged, &vec![0; sound.poset.count()], n);

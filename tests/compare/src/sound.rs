@@ -46,9 +46,10 @@ impl Sound {
     }
 
     fn ask_lists(&self, both: &mut Both) {
-        for person in [0, self.n.saturating_sub(1), both.random.below(self.n + 1), self.n, 255] {
-            both.student_list(&self.book, person as u8);
-            both.mentor_list(&self.book, person as u8);
+        let last = self.n.saturating_sub(1);
+        for person in [0, last, both.random.below(self.n + 1), self.n, 255, 256, 256 + last, 1 << 32, usize::MAX] {
+            both.student_list(&self.book, person);
+            both.mentor_list(&self.book, person);
         }
     }
 
@@ -57,6 +58,7 @@ impl Sound {
             both.student_best(&self.book, room);
             both.mentor_best(&self.book, room);
         }
+        both.rotation_count(&self.book);
         for room in around(self.poset.list_size(), &mut both.random) {
             both.rotations(&self.book, room);
         }

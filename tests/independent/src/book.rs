@@ -96,9 +96,8 @@ fn first_fault(list: &[u8]) -> Refusal {
 }
 
 /// Where the list of person k begins: men 0 to n - 1 are persons 0 to n - 1, women the next n. Rule 11.
-pub fn list_offset(book: &[u8], woman: bool, number: u8) -> Checked<(usize, usize)> {
+pub fn list_offset(book: &[u8], woman: bool, number: usize) -> Checked<(usize, usize)> {
     let n = check(book)?;
-    let number = number as usize;
     rule(number >= n, 11, 0)?;
     let person = if woman { n + number } else { number };
     Ok((lists_start(n) + person * n, n))

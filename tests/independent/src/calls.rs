@@ -22,11 +22,11 @@ pub fn write_book(n: usize, lists: &[u8], out: &mut [u8]) -> Reply {
     reply(|| book::write(n, lists, out))
 }
 
-pub fn student_list(book: &[u8], student: u8) -> Reply {
+pub fn student_list(book: &[u8], student: usize) -> Reply {
     person(book::list_offset(book, false, student))
 }
 
-pub fn mentor_list(book: &[u8], mentor: u8) -> Reply {
+pub fn mentor_list(book: &[u8], mentor: usize) -> Reply {
     person(book::list_offset(book, true, mentor))
 }
 
@@ -98,6 +98,10 @@ pub fn grade(book: &[u8], matching: &[u8]) -> Reply {
         let matching = matching::stable(&instance, matching)?;
         Ok(repair::all(&instance, &Poset::of(&instance), &matching).1)
     })
+}
+
+pub fn rotation_count(book: &[u8]) -> Reply {
+    reply(|| Ok(Poset::of(&instance::read(book)?).count()))
 }
 
 pub fn rotations(book: &[u8], out: &mut [u8]) -> Reply {

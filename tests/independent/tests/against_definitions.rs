@@ -60,6 +60,7 @@ impl Known {
             .collect();
         let mut out = vec![0; list.len()];
         assert_eq!(calls::rotations(&self.book, &mut out), Reply::value(self.rotations.len()));
+        assert_eq!(calls::rotation_count(&self.book), Reply::value(self.rotations.len()));
         assert_eq!(out, list);
     }
 

@@ -41,7 +41,7 @@ fn damaged_books() {
         let due = broken.map_or_else(|| Reply::value(book[1] as usize), refused);
         assert_eq!(calls::check_book(&book), due);
         seen[due.number as usize] += 1;
-        let person = random.below(9) as u8;
+        let person = random.below(9);
         if let Some(broken) = broken {
             assert_eq!(calls::student_list(&book, person), refused(broken));
             assert_eq!(calls::mentor_list(&book, person), refused(broken));

@@ -52,6 +52,7 @@ fn table_1_extremes_and_rotations() {
     assert_eq!(out, [1, 3, 0, 5, 4, 2, 6]);
     let poset = Poset::numbered(&instance::read(&table_1()).unwrap());
     assert_eq!(poset.count(), 6);
+    assert_eq!(calls::rotation_count(&table_1()), Reply::value(6));
     let pairs: Vec<(u8, u8)> = poset.rotation(1).iter().map(|p| (p.man, p.woman)).collect();
     assert_eq!(pairs, [(1, 4), (6, 5), (5, 0)]);
 }
@@ -143,6 +144,7 @@ fn most_rotations() {
     let book = samples::book(64, &samples::xor(64));
     let mut out = vec![0; 2016 * 5];
     assert_eq!(calls::rotations(&book, &mut out), Reply::value(2016));
+    assert_eq!(calls::rotation_count(&book), Reply::value(2016));
     assert!(out.chunks(5).all(|r| r[0] == 2));
     assert_eq!(calls::rotations(&book, &mut out[1..]), refused(14, 0));
 }

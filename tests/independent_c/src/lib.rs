@@ -47,12 +47,12 @@ pub unsafe extern "C" fn placement_write_book(
 }
 
 #[no_mangle]
-pub unsafe extern "C" fn placement_student_list(book: *const u8, book_len: usize, student: u8) -> Reply {
+pub unsafe extern "C" fn placement_student_list(book: *const u8, book_len: usize, student: usize) -> Reply {
     calls::student_list(lent(book, book_len), student)
 }
 
 #[no_mangle]
-pub unsafe extern "C" fn placement_mentor_list(book: *const u8, book_len: usize, mentor: u8) -> Reply {
+pub unsafe extern "C" fn placement_mentor_list(book: *const u8, book_len: usize, mentor: usize) -> Reply {
     calls::mentor_list(lent(book, book_len), mentor)
 }
 
@@ -112,6 +112,11 @@ pub unsafe extern "C" fn placement_grade(
     matching_len: usize,
 ) -> Reply {
     calls::grade(lent(book, book_len), lent(matching, matching_len))
+}
+
+#[no_mangle]
+pub unsafe extern "C" fn placement_rotation_count(book: *const u8, book_len: usize) -> Reply {
+    calls::rotation_count(lent(book, book_len))
 }
 
 #[no_mangle]

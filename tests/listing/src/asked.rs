@@ -58,23 +58,30 @@ impl Asked<'_> {
         granted(self.checked?)
     }
 
-    /// One man's list: "the library hands back that stretch of the book".
-    pub fn student_list(&self, student: Man) -> Reply {
-        let n = self.checked?;
-        self.stretch(student.index() < n, student.index())
+    /// One student's list: "the library hands back that stretch of the book". Any number may be asked for.
+    pub fn student_list(&self, student: usize) -> Reply {
+        self.numbered(student)?;
+        self.stretch(student)
     }
 
-    /// One woman's list.
-    pub fn mentor_list(&self, mentor: Woman) -> Reply {
-        let n = self.checked?;
-        self.stretch(mentor.index() < n, n + mentor.index())
+    /// One mentor's list.
+    pub fn mentor_list(&self, mentor: usize) -> Reply {
+        let n = self.numbered(mentor)?;
+        self.stretch(n + mentor)
     }
 
-    /// The stretch of a directory pair, or rule 11: "a student, mentor or rotation asked for has no such number".
-    fn stretch(&self, has_number: bool, pair: usize) -> Reply {
-        if !has_number {
+    /// n, where each side has a person of this number, or rule 11: "a student, mentor or rotation asked for has no such
+    /// number".
+    fn numbered(&self, number: usize) -> Result<usize, Refusal> {
+        let n = self.checked?;
+        if number >= n {
             return refused(11, 0);
         }
+        Ok(n)
+    }
+
+    /// The stretch of a directory pair.
+    fn stretch(&self, pair: usize) -> Reply {
         let (offset, length) = book::directory_pair(self.book, pair);
         Ok(Granted { place: offset, value: length, letter: None })
     }
@@ -137,6 +144,12 @@ impl Asked<'_> {
     pub fn grade(&self, matching: &[u8]) -> Reply {
         let given = self.stable_matching(matching)?;
         granted(self.listing().grade(&given))
+    }
+
+    /// How many rotations there are.
+    pub fn rotation_count(&self) -> Reply {
+        self.checked?;
+        granted(self.runs().rotations.len())
     }
 
     /// The list of rotations; "the reply gives how many there are".

@@ -122,6 +122,7 @@ fn table_1_rotations_and_sets() {
     let asked = Asked::new(table_1());
     let rotations = &asked.runs().rotations;
     assert_eq!(rotations.len(), 6);
+    assert_eq!(asked.rotation_count(), granted(6));
     assert_eq!(rotations[1].bytes(), [3, 1, 4, 6, 5, 5, 0]);
     let (mut out, mut set) = ([9; 7], [9; 6]);
     assert_eq!(asked.set_to_matching(&[1, 1, 1, 0, 0, 0], &mut out), granted(7));

@@ -5,7 +5,6 @@ use crate::lent::Lent;
 use crate::tally::{Call, Tally};
 use archive::Reply;
 use listing::asked::{self, Asked};
-use listing::people::{Man, Woman};
 
 /// A reply of the listing in the form of the C interface.
 fn in_c(reply: listing::reply::Reply) -> Reply {
@@ -82,15 +81,17 @@ impl Both {
     }
 
     /// One student's list.
-    pub fn student_list(&mut self, book: &Asked, number: u8) {
+    pub fn student_list(&mut self, book: &Asked, number: usize) {
         let given = archive::student_list(book.book(), number);
-        self.replies(Call::StudentList, &[book.book(), &[number]], given, book.student_list(Man(number)));
+        let inputs = [book.book(), &number.to_le_bytes()];
+        self.replies(Call::StudentList, &inputs, given, book.student_list(number));
     }
 
     /// One mentor's list.
-    pub fn mentor_list(&mut self, book: &Asked, number: u8) {
+    pub fn mentor_list(&mut self, book: &Asked, number: usize) {
         let given = archive::mentor_list(book.book(), number);
-        self.replies(Call::MentorList, &[book.book(), &[number]], given, book.mentor_list(Woman(number)));
+        let inputs = [book.book(), &number.to_le_bytes()];
+        self.replies(Call::MentorList, &inputs, given, book.mentor_list(number));
     }
 
     /// The check of a matching.
@@ -131,6 +132,11 @@ impl Both {
     pub fn grade(&mut self, book: &Asked, matching: &[u8]) {
         let given = archive::grade(book.book(), matching);
         self.replies(Call::Grade, &[book.book(), matching], given, book.grade(matching));
+    }
+
+    /// How many rotations there are.
+    pub fn rotation_count(&mut self, book: &Asked) {
+        self.replies(Call::RotationCount, &[book.book()], archive::rotation_count(book.book()), book.rotation_count());
     }
 
     /// The list of rotations: how many are due.

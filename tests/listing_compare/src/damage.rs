@@ -40,7 +40,7 @@ impl Both {
         let n = matching.len();
         self.check_book(&copy);
         self.student_list(&copy, 0);
-        self.mentor_list(&copy, 255);
+        self.mentor_list(&copy, 256);
         self.check_matching(&copy, matching);
         self.check_matching(&copy, &[255, 255, 255]);
         self.grade(&copy, matching);
@@ -49,6 +49,7 @@ impl Both {
             self.student_best(&copy, room);
             self.mentor_best(&copy, room);
         }
+        self.rotation_count(&copy);
         for room in [200, 0] {
             self.rotations(&copy, room);
             self.sheet(&[bytes, matching].concat(), room);

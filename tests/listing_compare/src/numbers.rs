@@ -14,7 +14,7 @@ impl Both {
 
     /// Asks for the lists and the order of people and rotations, with numbers that there are and that there are not.
     pub fn ask_numbers(&mut self, book: &Asked, n: usize) {
-        for number in (0..=n as u8 + 1).chain([63, 64, 128, 255]) {
+        for number in (0..=n + 1).chain([63, 64, 128]).chain(HUGE) {
             self.student_list(book, number);
             self.mentor_list(book, number);
         }

@@ -18,6 +18,7 @@ impl Both {
         self.check_book(book);
         self.student_best(book, ROOM);
         self.mentor_best(book, ROOM);
+        self.rotation_count(book);
         let rotations = self.rotations(book, LIST_ROOM);
         self.tally.rotations += rotations;
         self.ask_order(book, rotations);

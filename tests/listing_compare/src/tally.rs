@@ -22,6 +22,7 @@ pub enum Call {
     MentorBest,
     Repair,
     Grade,
+    RotationCount,
     Rotations,
     Precedes,
     SetToMatching,
@@ -30,7 +31,7 @@ pub enum Call {
 }
 
 /// Each call, whether it takes a book, and the other rules that it may be refused by, as the header says.
-const CALLS: [(Call, bool, &[usize]); 15] = [
+const CALLS: [(Call, bool, &[usize]); 16] = [
     (Call::CheckBook, true, &[]),
     (Call::BookSize, false, &[3]),
     (Call::WriteBook, false, &[3, 1, 4, 6, 7, 14]),
@@ -41,6 +42,7 @@ const CALLS: [(Call, bool, &[usize]); 15] = [
     (Call::MentorBest, true, &[14]),
     (Call::Repair, true, &[8, 9, 10, 13, 11, 12, 14]),
     (Call::Grade, true, &[8, 9, 10]),
+    (Call::RotationCount, true, &[]),
     (Call::Rotations, true, &[14]),
     (Call::Precedes, true, &[11]),
     (Call::SetToMatching, true, &[15, 16, 14]),
@@ -61,7 +63,7 @@ pub struct Tally {
     /// Answers with U, D and F.
     pub letters: [usize; 3],
     /// For each call how often each rule was met; at 0 how often none was.
-    met: [[usize; 17]; 15],
+    met: [[usize; 17]; 16],
     /// How often a sheet printed the refusal by each rule.
     pub printed: [usize; 17],
     pub differences: usize,
@@ -137,7 +139,7 @@ mod tests {
 
     /// A tally in which every call has met each of its rules, and every refusal that a sheet can print was printed.
     fn complete() -> Tally {
-        Tally { met: [[1; 17]; 15], printed: [1; 17], ..Tally::default() }
+        Tally { met: [[1; 17]; 16], printed: [1; 17], ..Tally::default() }
     }
 
     /// What was never met is missed, and nothing else.

@@ -15,7 +15,7 @@ use Rattle.format.specs.WellFormed.{WellFormed, fine-well-formed}
 use Rattle.stable_theory.specs.Rotations.Rotation.{Rotation}
 use Rattle.stable_theory.specs.Rotations.Numbering.{rotation}
 use Rattle.matchings.specs.BookMarket.{market}
-use Rattle.rotations.specs.RotationList.{pairBytes, rotationBytes, bytesUpto, rotationCount, listBytes, checkListRoom, listReply, listBuffer}
+use Rattle.rotations.specs.RotationList.{pairBytes, rotationBytes, bytesUpto, rotationCount, countReply, listBytes, checkListRoom, listReply, listBuffer}
 use Rattle.rotations.specs.ByteRotation.{Pair, Pairs, NumberedIn, rotationNumber, memberBytes, bytesOf, endToEnd}
 use Rattle.rotations.specs.Laws.PairLists.{pairIn, pairsOf, pairs-long}
 use Rattle.rotations.specs.Laws.Numberings.{listed}
@@ -56,7 +56,11 @@ module _ {b : List ℕ} (W : WellFormed b) {l : List Pairs} (N : NumberedIn b l)
   room-for {room} h =
       room-fits (checkBook b) (length (listBytes b)) room (fine-well-formed b .1 W) (omega (arith, ap length numbered-bytes))
 
-  -- the reply is how many there are
+  -- the reply is how many there are, where their number alone is asked for
+  pub count-numbered : countReply b ≡ gives (length l)
+  count-numbered = ap (λ (v : Verdict). after v (rotationCount b)) (fine-well-formed b .1 W) ∙ ap gives (numbered-count W N)
+
+  -- and with their list
   pub reply-count : {room : ℕ} → length (endToEnd l) ≤ room → listReply b room ≡ gives (length l)
   reply-count h = ap (λ (v : Verdict). after v (rotationCount b)) (room-for h) ∙ ap gives (numbered-count W N)
 

@@ -1,10 +1,9 @@
 -- How long a sheet can be: line one, and a line for each of the largest n. Assumes nothing.
-use Prim.Native.Nat.{ℕ, _+_, _-_, _*_, _≤_}
+use Prim.Native.Nat.{ℕ, _≤_}
 use mathlib.Core.Path.{_≡_, refl, ap}
 use mathlib.Core.Bool.{not}
 use mathlib.Core.List.{List}
 use native.Mathlib.Omega.{arith}
-use native.Mathlib.Nat.{mul-le-mul}
 use lib.ListN.{length, length-append}
 use lib.Dec.{eqb}
 use Rattle.laws.specs.SumLaws.{count-most}
@@ -18,13 +17,12 @@ use Rattle.stable_theory.specs.Stable.Market.{Market}
 use Rattle.stable_theory.specs.Repairs.Repair.{moved, weight}
 use Rattle.stable_theory.specs.Repairs.Answer.{Answer, U, D, F, cost, robustness}
 use Rattle.stable_theory.specs.Rotations.Numbering.{total}
-use Rattle.stable_theory.specs.Rotations.Canonical.{rotations-complete}
-use Rattle.stable_theory.specs.Rotations.RotationCount.{rotations-most-complete}
-use Rattle.matchings.specs.BookMarket.{market, market-proper, market-complete}
+use Rattle.matchings.specs.BookMarket.{market}
 use Rattle.matchings.specs.Matching.{vectorOf, checkMatching, womanOf}
 use Rattle.matchings.specs.Extreme.{matchingOf}
 use Rattle.matchings.specs.Laws.StableCheck.{fine-stable}
 use Rattle.matchings.specs.Laws.Numbers.{matching-most}
+use Rattle.rotations.specs.Largest.{rotations-within}
 use Rattle.repairs.specs.Repair.{answerFor}
 use Rattle.repairs.specs.Grade.{gradeOf}
 use Rattle.nearest.specs.Nearest.{farOf}
@@ -61,19 +59,7 @@ grade-most b m =
     (λ s u. cost-most (market b) (vectorOf b m) s (answerFor b m s))
 
 module _ {b : List ℕ} (W : WellFormed b) where
-  -- twice the rotations are at most n × (n − 1)
-  rotations-by : total (market b) + total (market b) ≤ people b * (people b - 1)
-  unfolding market
-  rotations-by = rotations-most-complete (market-proper W) (rotations-complete (market-proper W)) (market-complete W)
-
-  -- so there are no more than the square of the largest n
-  pub rotations-few : total (market b) ≤ largest * largest
-  rotations-few =
-      let few : people b ≤ largest = W .few in
-      let less : people b - 1 ≤ largest = omega arith in
-      omega (arith, rotations-by, mul-le-mul few less)
-
-  -- and the sheet is no longer than the longest
+  -- the sheet of a stable matching is no longer than the longest
   pub answers-short : (m : List ℕ) → Into (people b) (people b) (womanOf m) → length (answers b m) ≤ longest
   unfolding answers
   answers-short m N =
@@ -83,7 +69,7 @@ module _ {b : List ℕ} (W : WellFormed b) where
       omega (
         arith,
         length-append top pairs,
-        top-short {n = people b} {r = total (market b)} {g = gradeOf b m} (omega arith) (omega (arith, rotations-few)) (omega (arith, grade-most b m)),
+        top-short {n = people b} {r = total (market b)} {g = gradeOf b m} (omega arith) (omega (arith, rotations-within W)) (omega (arith, grade-most b m)),
         lines-short (womanOf m) (λ s. letterOf (answerFor b m s)) (λ s. distanceOf b m (answerFor b m s)) (people b)
             (λ s u. (omega arith, omega (arith, N .below u), omega (arith, distance-most b m (answerFor b m s)))),
       )

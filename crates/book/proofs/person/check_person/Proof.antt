@@ -46,6 +46,5 @@ check-person-spec =
     returns
     (λ c κs. search needs)
     (λ c κs. search needs)
-    (λ c κs. search needs)
     returns-2
     returns-3)

@@ -1,6 +1,6 @@
 -- `person_list` meets its contract: where the check finds nothing the list is one of the book's. Assumes nothing.
 use Prim.Native.Nat.{ℕ, _+_, _*_, _<_}
-use mathlib.Core.Path.{_≡_, refl, sym, _∙_, ap, ap₂}
+use mathlib.Core.Path.{_≡_, refl, sym, _∙_, ap}
 use native.Mathlib.Omega.{arith}
 use borrow.Author.Needs.{needs}
 use Rattle.format.specs.Verdict.{fine, verdictOf}
@@ -33,18 +33,17 @@ mul-list-of c =
     let t : tie.After-enum-told = search in
     omega (arith, person-list _ _ (passed t) (start t .pre) (c .people-in .ensures .0) refl)
 
-one-of : (c : tie.After-wide) → let t : tie.After-enum-told = search in let p : tie.After-people-in = search in
-    start t .args .side * p .people-in .result + c .wide .result < 2 * p .people-in .result
+one-of : (c : tie.After-people-in) → let t : tie.After-enum-told = search in
+    start t .args .side * c .people-in .result + start t .args .number < 2 * c .people-in .result
 one-of c =
     let t : tie.After-enum-told = search in
-    let p : tie.After-people-in = search in
-    person-list _ _ (passed t) (start t .pre) (p .people-in .ensures .0) (c .wide .ensures .0)
+    person-list _ _ (passed t) (start t .pre) (c .people-in .ensures .0) refl
 
 list-of-requires : tie.Need-list-of-requires
 list-of-requires c κs =
     let t : tie.After-enum-told = search in
     let p : tie.After-people-in = search in
-    listed (fine-passed _ (person-book _ _ (passed t)) .pairs) (omega (arith, one-of c, p .people-in .ensures .0))
+    listed (fine-passed _ (person-book _ _ (passed t)) .pairs) (omega (arith, one-of p, p .people-in .ensures .0))
 
 returns-2 : tie.Need-returns-2
 returns-2 c =
@@ -52,8 +51,7 @@ returns-2 c =
     let s = start t in
     let p : tie.After-people-in = search in
     c .list-of .ensures
-    ∙ ap (stretch (s .args .book .now))
-    (ap₂ (λ (n m : ℕ). s .args .side * n + m) (p .people-in .ensures .0) (c .before .wide .ensures .0))
+    ∙ ap (λ (n : ℕ). stretch (s .args .book .now) (s .args .side * n + s .args .number)) (p .people-in .ensures .0)
     ∙ sym (the-list _ (passed t))
 
 pub person-list-spec : {M : Type 1} → statement M
@@ -67,7 +65,6 @@ person-list-spec =
     returns
     (λ c κs. search needs)
     mul-list-of
-    (λ c κs. search needs)
-    (λ c. omega (arith, one-of c))
+    (λ c. let p : tie.After-people-in = search in omega (arith, one-of p))
     list-of-requires
     returns-2)

@@ -1,0 +1,215 @@
+/* Measures the stack that each call of include/placement.h needs. A call is made on a stack of its own, which is filled
+ * with a pattern before, and the deepest byte that has changed is looked for afterwards. What is printed for each n is the
+ * most of all inputs of that n, each as it is and with a book that is refused at its last byte; a repair is asked for
+ * every pair. Exits with 1 if a call needs more than the header says.
+ *
+ *     stack FILE...       files with a book and a stable matching after it */
+#define _XOPEN_SOURCE 700 /* makecontext */
+#include <placement.h>
+
+#include <stdio.h>
+#include <stdlib.h>
+#include <string.h>
+#include <ucontext.h>
+
+#define STACK 262144
+#define PATTERN 0xa5
+
+/* What a call is asked with: a book, a matching, its set and a student. */
+static uint8_t input[PLACEMENT_LARGEST_BOOK + PLACEMENT_LARGEST_N], set[PLACEMENT_LARGEST_ROTATION_COUNT];
+static const uint8_t *matching;
+static size_t book_len, matching_len, set_len, student;
+
+/* Results. */
+static uint8_t out[PLACEMENT_LARGEST_ROTATION_LIST];
+static int8_t gains[PLACEMENT_LARGEST_N];
+static struct placement_reply reply;
+
+static void nothing(void)
+{
+}
+
+static void check_book(void)
+{
+    reply = placement_check_book(input, book_len);
+}
+
+static void book_size(void)
+{
+    reply = placement_book_size(matching_len);
+}
+
+static void write_book(void)
+{
+    const size_t lists = 2 * matching_len * matching_len;
+    reply = placement_write_book(matching_len, input + book_len - lists, lists, out, sizeof out);
+}
+
+static void student_list(void)
+{
+    reply = placement_student_list(input, book_len, student);
+}
+
+static void mentor_list(void)
+{
+    reply = placement_mentor_list(input, book_len, student);
+}
+
+static void check_matching(void)
+{
+    reply = placement_check_matching(input, book_len, matching, matching_len);
+}
+
+static void student_best(void)
+{
+    reply = placement_student_best(input, book_len, out, sizeof out);
+}
+
+static void mentor_best(void)
+{
+    reply = placement_mentor_best(input, book_len, out, sizeof out);
+}
+
+static void repair(void)
+{
+    uint8_t request[2] = {(uint8_t)student, matching[student]};
+    reply = placement_repair(input, book_len, matching, matching_len, request, 2, out, sizeof out, gains, sizeof gains);
+}
+
+static void grade(void)
+{
+    reply = placement_grade(input, book_len, matching, matching_len);
+}
+
+static void rotation_count(void)
+{
+    reply = placement_rotation_count(input, book_len);
+}
+
+static void rotations(void)
+{
+    reply = placement_rotations(input, book_len, out, sizeof out);
+}
+
+static void precedes(void)
+{
+    reply = placement_precedes(input, book_len, 0, set_len == 0 ? 0 : set_len - 1);
+}
+
+static void set_to_matching(void)
+{
+    reply = placement_set_to_matching(input, book_len, set, set_len, out, sizeof out);
+}
+
+static void matching_to_set(void)
+{
+    reply = placement_matching_to_set(input, book_len, matching, matching_len, out, sizeof out);
+}
+
+static void sheet(void)
+{
+    reply = placement_sheet(input, book_len + matching_len, out, sizeof out);
+}
+
+/* The calls, what the header says that each needs, and the most that was measured for each n. */
+static struct {
+    const char *name;
+    void (*make)(void);
+    size_t said;
+    size_t most[PLACEMENT_LARGEST_N + 1];
+} calls[] = {
+    {"check_book", check_book, PLACEMENT_STACK_BOOKS, {0}},
+    {"book_size", book_size, PLACEMENT_STACK_BOOKS, {0}},
+    {"write_book", write_book, PLACEMENT_STACK_BOOKS, {0}},
+    {"student_list", student_list, PLACEMENT_STACK_BOOKS, {0}},
+    {"mentor_list", mentor_list, PLACEMENT_STACK_BOOKS, {0}},
+    {"check_matching", check_matching, PLACEMENT_STACK_MATCHINGS, {0}},
+    {"student_best", student_best, PLACEMENT_STACK_MATCHINGS, {0}},
+    {"mentor_best", mentor_best, PLACEMENT_STACK_MATCHINGS, {0}},
+    {"repair", repair, PLACEMENT_STACK_MATCHINGS, {0}},
+    {"grade", grade, PLACEMENT_STACK_MATCHINGS, {0}},
+    {"rotation_count", rotation_count, PLACEMENT_STACK_MATCHINGS, {0}},
+    {"rotations", rotations, PLACEMENT_STACK_ROTATIONS, {0}},
+    {"precedes", precedes, PLACEMENT_STACK_ROTATIONS, {0}},
+    {"set_to_matching", set_to_matching, PLACEMENT_STACK_ROTATIONS, {0}},
+    {"matching_to_set", matching_to_set, PLACEMENT_STACK_ROTATIONS, {0}},
+    {"sheet", sheet, PLACEMENT_STACK_MATCHINGS, {0}},
+};
+#define CALLS (sizeof calls / sizeof calls[0])
+
+/* How many bytes of a stack have changed after a call on it, from the deepest of them up. */
+static size_t used(void (*make)(void))
+{
+    static uint8_t stack[STACK];
+    static ucontext_t here, there;
+    memset(stack, PATTERN, sizeof stack);
+    getcontext(&there);
+    there.uc_stack.ss_sp = stack;
+    there.uc_stack.ss_size = sizeof stack;
+    there.uc_link = &here;
+    makecontext(&there, make, 0);
+    swapcontext(&here, &there);
+    size_t untouched = 0;
+    while (untouched < STACK && stack[untouched] == PATTERN) {
+        untouched++;
+    }
+    return STACK - untouched;
+}
+
+/* Measures all calls on what is asked with. */
+static void measure(void)
+{
+    size_t less = used(nothing);
+    for (size_t k = 0; k < CALLS; k++) {
+        size_t needed = used(calls[k].make) - less;
+        if (calls[k].most[matching_len] < needed) {
+            calls[k].most[matching_len] = needed;
+        }
+    }
+}
+
+/* Measures all calls on the input of a file. */
+static void measure_file(const char *name)
+{
+    FILE *file = fopen(name, "rb");
+    if (file == NULL) {
+        perror(name);
+        exit(2);
+    }
+    size_t length = fread(input, 1, sizeof input, file);
+    fclose(file);
+    book_len = placement_book_size(input[1]).value;
+    matching = input + book_len;
+    matching_len = length - book_len;
+    reply = placement_matching_to_set(input, book_len, matching, matching_len, set, sizeof set);
+    if (reply.number != PLACEMENT_FINE) {
+        fprintf(stderr, "%s: no book with a stable matching\n", name);
+        exit(2);
+    }
+    set_len = reply.value;
+    for (student = 0; student < matching_len; student++) {
+        measure();
+    }
+    student = 0;
+    input[book_len - 1] = (uint8_t)matching_len;
+    measure();
+}
+
+int main(int argc, char **argv)
+{
+    int failed = 0;
+    for (int k = 1; k < argc; k++) {
+        measure_file(argv[k]);
+    }
+    printf("%-16s %8s %8s\n", "bytes of stack", "n = 8", "n = 64");
+    for (size_t k = 0; k < CALLS; k++) {
+        printf("%-16s %8zu %8zu\n", calls[k].name, calls[k].most[8], calls[k].most[64]);
+        for (size_t n = 0; n <= PLACEMENT_LARGEST_N; n++) {
+            if (calls[k].said < calls[k].most[n]) {
+                printf("%s: %zu bytes for n = %zu, and the header says %zu\n", calls[k].name, calls[k].most[n], n, calls[k].said);
+                failed = 1;
+            }
+        }
+    }
+    return failed;
+}
