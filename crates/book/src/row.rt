@@ -1,4 +1,4 @@
-// Rows of entries, as a matching, a request and one list are, and sets of marks: one entry or mark read or written.
+// Rows of entries, as one list and the list of rotations are, and sets of marks: one entry or mark read or written.
 use crate::field::wide;
 ghost use mathlib.Core.Path.{_≡_};
 ghost use Prim.Native.Nat.{_<_, _≤_};
@@ -8,22 +8,14 @@ ghost use Rattle.laws.specs.Moment.{now₀, now₁};
 ghost use Rattle.format.specs.Format.{largest, entryIn, markIn};
 
 // Entry i of a row.
-pub fn entry_in(row: &[u8], i: usize) -> usize
+pub(crate) fn entry_in(row: &[u8], i: usize) -> usize
     requires { ⌜ i < length (now row) ⌝ }
     ensures { λ r. ⌜ (r ≡ entryIn (now₀ row) i) × (r < 256) ⌝ }
 {
     wide(row[i])
 }
 
-// Writes entry i of a row: a person's number, or how many there are.
-pub fn put_entry(row: &mut [u8], i: usize, x: usize)
-    requires { ⌜ (i < length (now row)) × (x ≤ largest) ⌝ }
-    ensures { λ _. ⌜ now₁ row ≡ set (now₀ row) i x ⌝ }
-{
-    row[i] = x as u8;
-}
-
-// The same of a number in a table.
+// Writes entry i of a row: a number of a table, a person's or how many there are.
 pub fn put_number(row: &mut [u8], i: usize, x: u16)
     requires { ⌜ (i < length (now row)) × (x ≤ largest) ⌝ }
     ensures { λ _. ⌜ now₁ row ≡ set (now₀ row) i x ⌝ }

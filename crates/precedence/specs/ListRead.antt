@@ -7,6 +7,7 @@ use lib.ListN.{length}
 use Rattle.laws.specs.Table.{cell}
 use Rattle.laws.specs.Choice.{pick}
 use Rattle.laws.specs.Values.{vec, values}
+use Rattle.format.specs.Format.{largest}
 use Rattle.stable_theory.specs.Rotations.Rotation.{Rotation}
 use Rattle.rotation_elimination.specs.Written.{rotationIn}
 use Rattle.rotation_elimination.specs.Elimination.{Turnable}
@@ -20,12 +21,16 @@ startIn l (suc k) = startIn l k + (1 + 2 * vec l (startIn l k))
 abbrev pub numberIn : List ℕ → ℕ → Rotation
 numberIn l k = rotationIn l (startIn l k)
 
--- the first man of the rotation at `at`, and the place to which it moves him, that of the second pair's woman
+-- the first man of the rotation at `at`, the woman to whom it moves him, that of the second pair, and her place on his
+-- list
 abbrev pub firstMan : List ℕ → ℕ → ℕ
 firstMan l at = vec l (at + 1)
 
+abbrev pub nextWoman : List ℕ → ℕ → ℕ
+nextWoman l at = vec l (at + 4)
+
 abbrev pub placeAfter : ℕ → List ℕ → List ℕ → ℕ → ℕ
-placeAfter n ranks l at = cell ranks n (vec l (at + 1)) (vec l (at + 4))
+placeAfter n ranks l at = cell ranks n (firstMan l at) (nextWoman l at)
 
 -- the places are past it: he is at or after that place
 unfoldable pub pastIn : ℕ → List ℕ → List ℕ → ℕ → (ℕ → ℕ) → Bool
@@ -40,14 +45,16 @@ abbrev pub pastBytes : ℕ → List ℕ → List ℕ → (ℕ → ℕ) → ℕ �
 pastBytes n ranks l p z = values (λ k. pick (pastNumber n ranks l p k) 1 0) 0 z
 
 -- what the code that reads the list needs: z rotations stand in it, each of two pairs at least,
--- of different men and women below n
+-- of different men and women below n, which is one of a book
 pub record Readable (n z : ℕ) (l : List ℕ) : Type 0 where
+  pub few : n ≤ largest
   pub within : (k : ℕ) → k ≤ z → startIn l k ≤ length l
   pub turnable : (k : ℕ) → k < z → Turnable n n (numberIn l k)
   pub two : (k : ℕ) → k < z → 2 ≤ vec l (startIn l k)
 
 -- what that test reads of a rotation
 pub record Front (n : ℕ) (l : List ℕ) (at : ℕ) : Type 0 where
+  pub few : n ≤ largest
   pub room : at + 4 < length l
-  pub man : vec l (at + 1) < n
-  pub woman : vec l (at + 4) < n
+  pub man : firstMan l at < n
+  pub woman : nextWoman l at < n

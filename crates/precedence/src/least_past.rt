@@ -1,7 +1,11 @@
 // The least stable places past a rotation: from the student-best places its first man is pushed on until he is at or
 // after the place to which it moves him. A stable vector in which he is so is past the whole rotation.
+use book::man_numbered;
+use book::woman_numbered;
 use extremes::man_optimal_places;
 use format::Instance;
+use format::Man;
+use format::Woman;
 use pushing::push;
 use tables::entry;
 use tables::wide;
@@ -14,17 +18,33 @@ ghost use Rattle.format.specs.Format.{largest};
 ghost use Rattle.format.specs.Record.{Record, lent};
 ghost use Rattle.tables.specs.Lists.{Tables, tables, market, Sound, Sized};
 ghost use Rattle.instances.specs.Usable.{Usable};
-ghost use Rattle.precedence.specs.ListRead.{placeAfter, Front};
+ghost use Rattle.precedence.specs.ListRead.{firstMan, nextWoman, placeAfter, Front};
 ghost use Rattle.precedence.specs.LeastPast.{PushableTo, LeastFrom, SomePast, LeastPast};
 
-// The place to which the rotation that stands at `at` moves its first man: that of the second pair's woman.
+// The first man of the rotation that stands at `at`.
+pub(crate) fn first_man(list: &[u16], at: usize) -> Man
+    requires { ⌜ (at + 1 < length (now list)) × (firstMan (now list) at < largest) ⌝ }
+    ensures { λ r. ⌜ r .0 ≡ firstMan (now₀ list) at ⌝ }
+{
+    man_numbered(wide(list[at + 1]))
+}
+
+// The woman to whom it moves him, that of the second pair.
+fn next_woman(list: &[u16], at: usize) -> Woman
+    requires { ⌜ (at + 4 < length (now list)) × (nextWoman (now list) at < largest) ⌝ }
+    ensures { λ r. ⌜ r .0 ≡ nextWoman (now₀ list) at ⌝ }
+{
+    woman_numbered(wide(list[at + 4]))
+}
+
+// The place to which it moves him: hers on his list.
 pub(crate) fn place_after(n: usize, ranks: &[u16], list: &[u16], at: usize) -> usize
     requires { ⌜ Front n (now list) at × (n * n ≤ length (now ranks)) ⌝ }
     ensures { λ r. ⌜ r ≡ placeAfter n (now₀ ranks) (now₀ list) at ⌝ }
 {
-    let m = wide(list[at + 1]);
-    let w = wide(list[at + 4]);
-    entry(ranks, n, m, w)
+    let m = first_man(list, at);
+    let w = next_woman(list, at);
+    entry(ranks, n, book::wide(m.0), book::wide(w.0))
 }
 
 // Copies places.
@@ -83,7 +103,8 @@ pub(crate) fn least_past<'a>(
     requires { λ R. ⌜ SomePast R (now list) at ⌝ }
     ensures { λ R r. ⌜ LeastPast R (now₀ list) at (vec r) × (length r ≡ largest) ⌝ }
 {
-    let m = wide(list[at + 1]);
+    let m = first_man(list, at);
+    let s = book::wide(m.0);
     let goal = place_after(n, mranks, list, at);
     let places = man_optimal_places(n, mlists, wlists, wranks);
     let mut men = places.men;
@@ -98,7 +119,7 @@ pub(crate) fn least_past<'a>(
         &mut men[..n],
         &mut women[..n],
         &mut was[..n],
-        m,
+        s,
         goal,
     );
     men

@@ -1,4 +1,5 @@
 // The order of rotations: one precedes another if the least stable matching past the other is past it too.
+use crate::least_past::first_man;
 use crate::least_past::least_past;
 use crate::least_past::place_after;
 use book::is_small;
@@ -23,7 +24,7 @@ ghost use Rattle.format.specs.Record.{LongTables};
 ghost use Rattle.rotation_numbering.specs.Numbering.{LongList};
 ghost use Rattle.instances.specs.Usable.{Usable};
 ghost use Rattle.rotations.specs.Precedence.{precedenceOutcome, precedenceReply};
-ghost use Rattle.precedence.specs.ListRead.{startIn, pastIn, Readable};
+ghost use Rattle.precedence.specs.ListRead.{startIn, pastIn, Readable, Front};
 ghost use Rattle.precedence.specs.LeastPast.{SomePast, PastLeast};
 
 // Says whether rotation number `first` of a book precedes rotation number `second`.
@@ -171,11 +172,11 @@ pub fn next_start(list: &[u16], at: usize) -> usize
 // Whether places are past the rotation that stands at `at`: whether its first man is at or after the place of the
 // second pair's woman.
 pub fn past(n: usize, ranks: &[u16], list: &[u16], at: usize, places: &[u16]) -> bool
-    requires { ⌜ at + 4 < length (now list) ⌝ }
-    requires { ⌜ (vec (now list) (at + 1) < n) × (vec (now list) (at + 4) < n) × (n ≤ length (now places)) ×
-        (n * n ≤ length (now ranks)) ⌝ }
+    requires { ⌜ Front n (now list) at ⌝ }
+    requires { ⌜ (n ≤ length (now places)) × (n * n ≤ length (now ranks)) ⌝ }
     ensures { λ r. ⌜ r ≡ pastIn n (now₀ ranks) (now₀ list) at (vec₀ places) ⌝ }
 {
-    let m = wide(list[at + 1]);
-    place_after(n, ranks, list, at) <= wide(places[m])
+    let m = first_man(list, at);
+    let i = book::wide(m.0);
+    place_after(n, ranks, list, at) <= wide(places[i])
 }

@@ -5,17 +5,18 @@ use mathlib.Core.List.{List}
 use lib.ListN.{length}
 use Rattle.laws.specs.Overwrite.{overwritten}
 use Rattle.laws.specs.Values.{vec}
+use Rattle.format.specs.Format.{largest}
 
 -- A number of at most four digits, as every number of a sheet is
 abbrev pub FourDigits : ℕ → Type 0
 FourDigits x = x < 10000
 
--- What the lines of n pairs are made of: so many entries, letters and distances, and n and the distances short
+-- What the lines of n pairs are made of: so many entries, letters and distances, few pairs, and short distances
 pub record PairsGiven (n : ℕ) (matching letters distances : List ℕ) : Type 0 where
   pub women : n ≤ length matching
   pub letters-long : n ≤ length letters
   pub distances-long : n ≤ length distances
-  pub men-short : FourDigits n
+  pub few : n ≤ largest
   pub distances-short : {s : ℕ} → s < n → FourDigits (vec distances s)
 
 -- The buffer l has become m: the bytes vs stand in it from index i on, all else is as it was, and j is the index past

@@ -1,9 +1,12 @@
 // The lines of the sheet put into a buffer at a position; each function gives the position past what it put.
 use crate::text::put_byte;
 use crate::text::put_field;
-use book::entry_in;
+use book::next_man;
 use book::wide;
+use book::woman_of;
 use format::Checked;
+use format::Man;
+use format::Woman;
 ghost use Prim.Native.Nat.{_+_, _≤_};
 ghost use lib.ListN.{length};
 ghost use Rattle.laws.specs.Moment.{now₀, now₁, vec₀};
@@ -25,20 +28,14 @@ pub fn put_top(out: &mut [u8], at: usize, n: usize, rotations: usize, grade: usi
 }
 
 // The line of a pair: man, woman, letter, distance.
-fn put_pair(
-    out: &mut [u8],
-    at: usize,
-    man: usize,
-    woman: usize,
-    letter: u8,
-    distance: usize,
-) -> usize
-    requires { ⌜ (at + length (pairLine man woman letter distance) ≤ length (now out)) ×
-        FourDigits man × FourDigits woman × FourDigits distance ⌝ }
-    ensures { λ r. ⌜ Put (now₀ out) at (pairLine man woman letter distance) (now₁ out) r ⌝ }
+fn put_pair(out: &mut [u8], at: usize, man: Man, woman: Woman, letter: u8, distance: usize) -> usize
+    requires { ⌜ (at + length (pairLine (man .0) (woman .0) letter distance) ≤ length (now out)) × FourDigits distance ⌝ }
+    ensures { λ r. ⌜ Put (now₀ out) at (pairLine (man .0) (woman .0) letter distance) (now₁ out) r ⌝ }
 {
-    let second = put_field(out, at, man, b' ');
-    let third = put_field(out, second, woman, b' ');
+    let m = wide(man.0);
+    let w = wide(woman.0);
+    let second = put_field(out, at, m, b' ');
+    let third = put_field(out, second, w, b' ');
     let after = put_byte(out, third, letter);
     let fourth = put_byte(out, after, b' ');
     put_field(out, fourth, distance, b'\n')
@@ -58,13 +55,14 @@ pub fn put_pairs(
     ensures { λ r. ⌜ Put (now₀ out) at (pairLines (entryIn (now₀ matching)) (vec₀ letters) (vec₀ distances) n) (now₁ out) r ⌝ }
 {
     let mut end = at;
-    let mut s = 0;
-    while s < n {
-        let woman = entry_in(matching, s);
+    let mut man = Man(0);
+    while wide(man.0) < n {
+        let s = wide(man.0);
+        let woman = woman_of(matching, man);
         let letter = letters[s];
         let distance = distances[s];
-        end = put_pair(out, end, s, woman, letter, distance);
-        s += 1;
+        end = put_pair(out, end, man, woman, letter, distance);
+        man = next_man(man);
     }
     end
 }

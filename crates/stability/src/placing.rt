@@ -1,8 +1,9 @@
 // The places of a matching, read from the ranks of both sides.
-use book::man_numbered;
+use book::next_man;
 use book::wide;
 use book::woman_of;
 use format::Instance;
+use format::Man;
 use matchings::Places;
 use tables::entry;
 ghost use Rattle.laws.specs.Moment.{now₀};
@@ -15,13 +16,14 @@ pub(crate) fn places_of(n: usize, mranks: &[u16], wranks: &[u16], matching: &[u8
 {
     let mut men = [0u16; Instance::LARGEST];
     let mut women = [0u16; Instance::LARGEST];
-    let mut i = 0;
-    while i < n {
-        let woman = woman_of(matching, man_numbered(i));
+    let mut man = Man(0);
+    while wide(man.0) < n {
+        let i = wide(man.0);
+        let woman = woman_of(matching, man);
         let w = wide(woman.0);
         men[i] = entry(mranks, n, i, w) as u16;
         women[w] = entry(wranks, n, w, i) as u16;
-        i += 1;
+        man = next_man(man);
     }
     Places { men, women }
 }

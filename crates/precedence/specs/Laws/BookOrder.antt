@@ -58,7 +58,7 @@ module _ {b : List ℕ} {r : Record} (R : Read b r) where
     unfolding market exposing
     book-readable =
         lists-readable (book-numbered R N .lists) (market-proper (R .formed)) exposing (λ k h. before-stable R k (omega arith)) (λ k h. numbered-exposed R h)
-        (R .tables .number) (R .tables .number)
+        (read-usable R .few) (R .tables .number) (R .tables .number)
 
     -- rotation number k of the list is the book's
     pub book-number : {k : ℕ} → k < rotationCount b → SamePairs (numberIn numbers k) (rotation (market b) k)

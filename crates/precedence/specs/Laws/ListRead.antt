@@ -8,6 +8,7 @@ use lib.Dec.{leb}
 use lib.ListN.{length}
 use Rattle.laws.specs.Table.{cell}
 use Rattle.laws.specs.Values.{vec}
+use Rattle.format.specs.Format.{largest}
 use Rattle.stable_theory.specs.Stable.Market.{Market, Proper}
 use Rattle.stable_theory.specs.Stable.Vector.{Stable}
 use Rattle.stable_theory.specs.Rotations.Rotation.{Rotation, Exposed, SamePairs, passed}
@@ -38,6 +39,7 @@ readable-front {n} {z} {l} R {k} h =
     let m = ap (λ (j : ℕ). vec l (at + 1 + 2 * j)) (around-inside {c = vec l at} {k = 0} (omega arith)) ∙ ap (vec l) d in
     let w = ap (λ (j : ℕ). vec l (at + 2 + 2 * j)) (around-inside {c = vec l at} {k = 1} (omega arith)) ∙ ap (vec l) g in
     record {
+      few = R .few;
       room = omega (arith, R .within (suc k) h);
       man = omega (arith, T .men {k = 0} (omega arith), m);
       woman = omega (arith, T .women {k = 0} (omega arith), w);
@@ -60,9 +62,10 @@ module _ {ρ : ℕ → Rotation} {z : ℕ} {l : List ℕ} {end : ℕ} (L : Lists
     number-same {k} h = written-in (started h) (X k h)
 
     -- so the list can be read
-    pub lists-readable : {n : ℕ} → n ≡ I .proposers .size → n ≡ I .receivers .size → Readable n z l
-    lists-readable e f =
+    pub lists-readable : {n : ℕ} → n ≤ largest → n ≡ I .proposers .size → n ≡ I .receivers .size → Readable n z l
+    lists-readable h e f =
         record {
+          few = h;
           within = λ k h. omega (arith, start-offset k h, offset-within L k h);
           turnable = λ k h. turnable-same (same-sym (number-same h)) (rw (← f) at (rw (← e) at (exposed-turnable M (P k h) (X k h))));
           two = λ k h. omega (arith, two-pairs (X k h), started h .pairs);

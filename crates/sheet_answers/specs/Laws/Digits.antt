@@ -53,7 +53,7 @@ module _ {R : Record} (U : Usable R) where
           women = h;
           letters-long = A .letters-long;
           distances-long = A .distances-long;
-          men-short = size-short;
+          few = U .few;
           distances-short = λ {s} u.
               let B = A .at u in
               let I = marketIn R in

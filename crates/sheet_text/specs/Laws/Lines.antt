@@ -89,18 +89,20 @@ module _ {w l d : ℕ → ℕ} {n : ℕ} {out : List ℕ} {at : ℕ} (room : at 
   lines-start = record { within = omega arith; put = record { next = omega arith; bytes = sym (overwritten-none out at) }; long = refl }
 
   module _ {k : ℕ} {now : List ℕ} {j : ℕ} (P : LinesPut w l d n out at k now j) where
-    -- there is room for the next line
-    pub lines-room : k < n → j + length (pairLine k (w k) (l k) (d k)) ≤ length now
-    lines-room h = omega (arith, lines-within w l d k n h, P .put .next, P .long)
+    -- there is room for the next line, of the man with index s and his woman x
+    pub lines-room : {s x : ℕ} → s ≡ k → x ≡ w k → k < n → j + length (pairLine k x (l s) (d s)) ≤ length now
+    lines-room e f h = rw (e, f) (omega (arith, lines-within w l d k n h, P .put .next, P .long))
 
     -- which is put
-    pub lines-on : {next : List ℕ} {i : ℕ} → k < n → Put now j (pairLine k (w k) (l k) (d k)) next i → LinesPut w l d n out at (k + 1) next i
-    lines-on {next} {i} h Q =
-        record {
+    pub lines-on : {s x : ℕ} → s ≡ k → x ≡ w k → {next : List ℕ} {i m : ℕ} → k < n → Put now j (pairLine k x (l s) (d s)) next i →
+        m ≡ k + 1 → LinesPut w l d n out at m next i
+    lines-on e f h Q r =
+        rw r
+        (record {
           within = omega arith;
-          put = rw (lines-more w l d k) (put-on (P .put) (omega arith) Q);
-          long = put-long Q (lines-room h) ∙ P .long;
-        }
+          put = rw (lines-more w l d k) (put-on (P .put) (omega arith) (rw (e, f) at Q));
+          long = put-long Q (lines-room e f h) ∙ P .long;
+        })
 
     -- and it ends
     pub lines-end : n ≤ k → Put out at (pairLines w l d n) now j

@@ -64,12 +64,12 @@ pub put-top : {l : List ℕ} {i : ℕ} (n r g : ℕ) {a b c : List ℕ} {j k e :
 unfolding topLine line
 put-top n r g h P Q R = simp append-assoc at (put-on (put-on P h Q) h R)
 
--- the line of a pair
-pub put-pair : {l : List ℕ} {i : ℕ} (s w : ℕ) {t : ℕ} (d : ℕ) {a b c e f : List ℕ} {j k m o q : ℕ} → i ≤ length l
-    → Put l i (numberThen s space) a j → Put a j (numberThen w space) b k → Put b k (t ∷ []) c m → Put c m (space ∷ []) e o → Put e o (numberThen d lineFeed) f q
+-- the line of a pair, whose numbers are s and w
+pub put-pair : {l : List ℕ} {i s w x y : ℕ} → x ≡ s → y ≡ w → {t : ℕ} (d : ℕ) {a b c e f : List ℕ} {j k m o q : ℕ} → i ≤ length l
+    → Put l i (numberThen x space) a j → Put a j (numberThen y space) b k → Put b k (t ∷ []) c m → Put c m (space ∷ []) e o → Put e o (numberThen d lineFeed) f q
     → Put l i (pairLine s w t d) f q
 unfolding pairLine line
-put-pair s w d h P Q R S T = simp append-assoc at (put-on (put-on (put-on (put-on P h Q) h R) h S) h T)
+put-pair man woman d h P Q R S T = rw (← man, ← woman) (simp append-assoc at (put-on (put-on (put-on (put-on P h Q) h R) h S) h T))
 
 -- the line of a refusal
 pub put-refusal : {l : List ℕ} (k : ℕ) {a b : List ℕ} {j e : ℕ} → Put l 0 (refusedWord ++ (space ∷ [])) a j → Put a j (numberThen k lineFeed) b e → Put l 0 (refusalLine k) b e

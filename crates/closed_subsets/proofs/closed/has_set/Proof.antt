@@ -27,7 +27,7 @@ past-requires : tie.Need-past-requires Inv-loop μ-loop
 past-requires c κs =
     let s = start (c .before) in
     let f = subst⁻¹ (Front (s .args .n) (s .args .list .now)) (c .before .loop .inv .1) (readable-front (s .pre .0) (c .loop-test .taken)) in
-    (f .room, (f .man, f .woman, s .pre .1 .0, s .pre .1 .1))
+    (f, (s .pre .1 .0, s .pre .1 .1))
 
 returns : tie.Need-returns Inv-loop μ-loop
 returns c =

@@ -28,7 +28,7 @@ past-requires c κs =
     let t : tie.In-loop Inv-loop μ-loop = search in
     let s = start (t .before) in
     let f = subst⁻¹ (Front (s .args .n) (s .args .list .now)) (t .before .loop .inv .1) (readable-front (s .pre .0) (t .loop-test .taken)) in
-    (f .room, (f .man, f .woman, s .pre .1 .0, s .pre .1 .1))
+    (f, (s .pre .1 .0, s .pre .1 .1))
 
 next-start-requires : tie.Need-next-start-requires Inv-loop μ-loop
 next-start-requires c κs =

@@ -1,9 +1,11 @@
 -- `least_past` meets its contract: the first man is pushed on the fronts of the arrays. Assumes nothing.
-use mathlib.Core.Path.{sym}
+use mathlib.Core.Path.{_≡_, sym, _∙_}
+use native.Mathlib.Omega.{arith}
 use lib.ListN.{take}
 use borrow.Author.Needs.{needs}
 use Rattle.laws.specs.Padded.{zeros-front}
 use Rattle.tables.specs.Lists.{Sized}
+use Rattle.precedence.specs.ListRead.{firstMan}
 use Rattle.precedence.specs.Laws.LeastPast.{best-sized, best-pushable, least-back}
 use Rattle.precedence.proofs.least_past.least_past.Statement.{statement}
 use Rattle.precedence.proofs.least_past.least_past.Tie as tie
@@ -17,6 +19,10 @@ man c = search
 
 abbrev start : tie.After-wide → tie.Start
 start c = search
+
+-- his number stands in the list
+numbered : (c : tie.After-wide) → let a = start c .args in c .wide .result ≡ firstMan (a .list .now) (a .at)
+numbered c = let m : tie.After-first-man = search in c .wide .ensures .0 ∙ m .first-man .ensures
 
 abbrev called : tie.After-push-to → tie.After-was
 called c = search
@@ -32,7 +38,7 @@ push-to-requires c κs =
     let s = start (man b) in
     let U = s .pre .0 in
     let S = s .pre .1 .1 in
-    (U .men, ((sized b, zeros-front (U .few)), best-pushable (U .men) (U .few) (b .man-optimal-places .ensures) (man b .wide .ensures .0) (g .place-after .ensures) (s .pre .1 .0 .man) S))
+    (U .men, ((sized b, zeros-front (U .few)), best-pushable (U .men) (U .few) (b .man-optimal-places .ensures) (numbered (man b)) (g .place-after .ensures) (s .pre .1 .0 .man) S))
 
 returns : tie.Need-returns
 returns c =
@@ -41,16 +47,14 @@ returns c =
     let g : tie.After-place-after = search in
     let s = start (man b) in
     let U = s .pre .0 in
-    least-back (U .men) (U .few) (b .man-optimal-places .ensures) (q .push-to .last .1 .1 .1 .1 .1 .0) (man b .wide .ensures .0) (g .place-after .ensures)
+    least-back (U .men) (U .few) (b .man-optimal-places .ensures) (q .push-to .last .1 .1 .1 .1 .1 .0) (numbered (man b)) (g .place-after .ensures)
     (s .pre .1 .0 .man) (q .push-to .kept .1 .1 .1 .1 .1 .0) (q .push-to .ensures)
 
 pub least-past-spec : {M : Type 1} → statement M
 least-past-spec =
     tie.close
     (tie.spec
-    (λ c. search needs)
-    (λ c. search needs)
-    (λ c. search needs)
+    (λ c κs. let s : tie.Start = search in let F = s .pre .1 .0 in (omega (arith, F .room), omega (arith, F .man, F .few)))
     (λ c κs. search needs)
     (λ c κs. search needs)
     (λ c κs. search needs)

@@ -23,7 +23,7 @@ least-past-requires c κs =
 past-requires : tie.Need-past-requires
 past-requires c κs =
     let f = front (c .before) in
-    (search, (search, search, omega arith, search))
+    (f, (omega arith, search))
 
 returns : tie.Need-returns
 returns c =
