@@ -14,7 +14,6 @@ use Rattle.format.specs.Format.{largest}
 use Rattle.matchings.specs.declared.places.Places.{Places}
 use Rattle.matchings.specs.BookMarket.{market}
 use Rattle.matchings.specs.Extreme.{matchingOf}
-use Rattle.extremes.specs.declared.optimal.Sides.{Sides}
 use Rattle.extremes.specs.declared.optimal.Proposers.{Proposers}
 use Rattle.extremes.specs.declared.optimal.Proposers.the-variants.{Men, Women}
 
@@ -26,16 +25,6 @@ extremeOf Women I = receiver-optimal I
 -- and as the matching of a book
 abbrev pub extremeMatching : Proposers → List ℕ → List ℕ
 extremeMatching x b = matchingOf b (extremeOf x (market b))
-
--- Both sides of the stable vector in which every one of n proposers is best off, and zeros past them
-pub record BestSides (I : Market) (n : ℕ) (s : Sides) : Type 0 where
-  pub best : Same I (vec (s .proposers)) (proposer-optimal I)
-  pub stable : Stable I (vec (s .proposers))
-  pub mirror : Mirror I (vec (s .proposers)) (vec (s .receivers))
-  pub proposers-past : (i : ℕ) → n ≤ i → vec (s .proposers) i ≡ 0
-  pub receivers-past : (w : ℕ) → n ≤ w → vec (s .receivers) w ≡ 0
-  pub proposers-long : length (s .proposers) ≡ largest
-  pub receivers-long : length (s .receivers) ≡ largest
 
 -- Both sides of the stable vector p of a market of n men and n women, and zeros past them
 pub record PlacesIn (n : ℕ) (I : Market) (p : ℕ → ℕ) (s : Places) : Type 0 where

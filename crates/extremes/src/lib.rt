@@ -6,6 +6,7 @@ mod written;
 
 pub use matching_bytes::write_matching;
 pub use optimal::man_optimal_places;
+pub use optimal::proposer_optimal;
 pub use optimal::woman_optimal_places;
 pub use written::man_optimal;
 pub use written::woman_optimal;

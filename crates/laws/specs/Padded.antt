@@ -5,7 +5,7 @@ use mathlib.Core.Path.{_≡_, sym, _∙_, ap}
 use mathlib.Core.List.{List, _++_}
 use native.Mathlib.Omega.{arith}
 use lib.ListN.{length, take, drop, replicate, length-append, length-take, length-drop, length-replicate, List·getD-append, List·getD-eq-default}
-use lib.Seq.{length-take-le, getD-take, getD-append-add, getD-drop}
+use lib.Seq.{length-take-le, getD-take, getD-append-add, getD-drop, take-append-seam}
 use Rattle.laws.specs.Choice.{split}
 use Rattle.laws.specs.Table.{zeros-read}
 use Rattle.laws.specs.Values.{vec}
@@ -41,6 +41,10 @@ module _ (m : ℕ) {n : ℕ} (p : List ℕ) (e : length p ≡ n) where
       let f : length p + (i - n) ≡ i = omega arith in
       ap (vec (padded m n p)) (sym f) ∙ getD-append-add p (drop n (zeros m)) (i - n) 0
       ∙ getD-drop n (zeros m) (i - n) 0 ∙ zeros-read m (n + (i - n))
+
+  -- the list is its front
+  pub padded-front : take n (padded m n p) ≡ p
+  padded-front = ap (λ (k : ℕ). take k (padded m n p)) (sym e) ∙ take-append-seam p (drop n (zeros m))
 
   -- m elements in all
   pub padded-long : n ≤ m → length (padded m n p) ≡ m

@@ -3,6 +3,8 @@ use Prim.Native.Nat.{ℕ, _*_, _≤_, _<_}
 use mathlib.Core.Path.{_≡_}
 use mathlib.Core.List.{List}
 use lib.ListN.{length}
+use Rattle.tables.specs.Lists.{Sized}
+use Rattle.deferred.specs.Optimal.{BestOff}
 use Rattle.format.specs.Format.{largest, people}
 use Rattle.format.specs.Record.{Record}
 use Rattle.instances.specs.Usable.{marketIn}
@@ -18,6 +20,11 @@ ListRoom n list = 5 * (n * n) ≤ 2 * length list
 -- so it has for those of a book whose n is not too large
 abbrev pub LongList : List ℕ → List ℕ → Type 0
 LongList b list = people b ≤ largest → ListRoom (people b) list
+
+-- The student-best matching of a record as places: p has the men's, and t the women's
+pub record BestPlaces (r : Record) (p t : List ℕ) : Type 0 where
+  pub sized : Sized (r .n) (r .n) p t
+  pub best : BestOff (marketIn r) (vec p) (vec t)
 
 -- Lists for the rotations of n men as they are found, of which none is: there are at most half as many as places
 pub record EmptyNotes (n : ℕ) (waits pairs starts left : List ℕ) : Type 0 where

@@ -1,19 +1,14 @@
 // All rotations in order of number: all of them in any order first, and then each as it is exposed.
-use extremes::man_optimal_places;
-use extremes::woman_optimal_places;
+use extremes::proposer_optimal;
 use format::Instance;
-use matchings::Places;
 use rotation_finding::find_all;
 use rotation_ordering::order;
 ghost use mathlib.Core.Path.{_≡_};
-ghost use Rattle.laws.specs.Moment.{now₁};
-ghost use Rattle.laws.specs.Values.{vec};
+ghost use Rattle.laws.specs.Moment.{now₁, vec₀};
 ghost use Rattle.format.specs.Record.{Record, lent};
 ghost use Rattle.instances.specs.Usable.{Usable, marketIn};
-ghost use Rattle.stable_theory.specs.Least.Optimal.{proposer-optimal};
-ghost use Rattle.extremes.specs.Places.{PlacesIn};
 ghost use Rattle.rotation_finding.specs.Recording.{FoundAll};
-ghost use Rattle.rotation_numbering.specs.Numbering.{ListRoom, EmptyNotes, NumberingOf};
+ghost use Rattle.rotation_numbering.specs.Numbering.{ListRoom, BestPlaces, EmptyNotes, NumberingOf};
 
 // How many rotations there are, and where their list ends.
 pub struct Extent {
@@ -35,15 +30,18 @@ const SMALL_MOST: usize = Instance::SMALL * Instance::SMALL / 2;
 // Four numbers for each man on a path.
 const FRAMES: usize = 4 * Instance::LARGEST;
 
-// Finds all rotations of a record, whose tables are lent, from the student-best matching on. They stand in `pairs`,
-// number q from index starts[q] on, with for how many women each waits in `left`, and for whom in `waits`.
+// Finds all rotations of a record, whose tables are lent, from the student-best matching on: p has the men's places in
+// it, t and `best` the women's. The rotations stand in `pairs`, number q from index starts[q] on, with for how many women
+// each waits in `left`, and for whom in `waits`.
 fn gather<'a>(
     n: usize,
     mlists: &'a [u16],
     mranks: &'a [u16],
     wlists: &'a [u16],
     wranks: &'a [u16],
-    best: Places,
+    best: &[u16],
+    p: &mut [u16],
+    t: &mut [u16],
     waits: &mut [u16],
     pairs: &mut [u16],
     starts: &mut [u16],
@@ -51,15 +49,13 @@ fn gather<'a>(
 ) -> usize
     ghost { Record }
     requires { λ R. ⌜ lent n mlists mranks wlists wranks ≡ R ⌝ }
-    requires { λ R. ⌜ Usable R × PlacesIn n (marketIn R) (proposer-optimal (marketIn R)) best ⌝ }
+    requires { λ R. ⌜ Usable R × BestPlaces R (now p) (now best) × BestPlaces R (now p) (now t) ⌝ }
     requires { λ _. ⌜ EmptyNotes n (now waits) (now pairs) (now starts) (now left) ⌝ }
-    ensures { λ R r. ⌜ FoundAll (marketIn R) (vec (best .women)) (now₁ pairs) (now₁ starts) (now₁ left) (now₁ waits) r ⌝ }
+    ensures { λ R r. ⌜ FoundAll (marketIn R) (vec₀ best) (now₁ pairs) (now₁ starts) (now₁ left) (now₁ waits) r ⌝ }
 {
-    let worst = woman_optimal_places(n, mlists, mranks, wlists);
-    let ends = worst.men;
-    let women = best.women;
-    let mut p = best.men;
-    let mut t = best.women;
+    let mut women = [0u16; Instance::LARGEST];
+    let mut ends = [0u16; Instance::LARGEST];
+    proposer_optimal(n, wlists, mlists, mranks, &mut women[..n], &mut ends[..n]);
     let mut held = [0u16; Instance::LARGEST];
     let mut on = [0u16; Instance::LARGEST];
     let mut frames = [0u16; FRAMES];
@@ -68,10 +64,10 @@ fn gather<'a>(
         mlists,
         wlists,
         wranks,
-        &ends,
-        &women,
-        &mut p[..n],
-        &mut t[..n],
+        &ends[..n],
+        best,
+        p,
+        t,
         &mut held[..n],
         &mut on[..n],
         &mut frames[..n * 4],
@@ -153,15 +149,19 @@ fn number_with<'a>(
     requires { λ _. ⌜ ListRoom n (now list) ⌝ }
     ensures { λ R r. ⌜ NumberingOf R (now₁ list) r ⌝ }
 {
-    let best = man_optimal_places(n, mlists, wlists, wranks);
-    let mut t = best.women;
+    let mut men = [0u16; Instance::LARGEST];
+    let mut women = [0u16; Instance::LARGEST];
+    proposer_optimal(n, mlists, wlists, wranks, &mut men[..n], &mut women[..n]);
+    let mut t = women;
     let count = gather(
         n,
         mlists,
         mranks,
         wlists,
         wranks,
-        best,
+        &women[..n],
+        &mut men[..n],
+        &mut t[..n],
         waits,
         pairs,
         starts,
@@ -176,7 +176,7 @@ fn number_with<'a>(
         waits,
         pairs,
         &starts[..count],
-        &mut t[..n],
+        &mut women[..n],
         &mut left[..count],
         &mut ready[..n],
         list,

@@ -1,93 +1,78 @@
 -- All rotations of a record's market, in a list: what the functions on books start from. Assumes nothing.
 use Prim.Native.Nat.{ℕ, _*_, _≤_, _<_}
-use mathlib.Core.Path.{_≡_, sym, _∙_}
+use mathlib.Core.Path.{_≡_, sym, _∙_, ap}
 use mathlib.Core.List.{List}
 use native.Mathlib.Omega.{arith}
 use native.Mathlib.Nat.{mul-le-mul}
 use lib.ListN.{length, take}
 use lib.Seq.{getD-take, length-take-le}
-use Rattle.tables.specs.Lists.{Sized}
+use Rattle.deferred.specs.Optimal.{BestOff}
 use Rattle.format.specs.Record.{Record, RecordIs}
 use Rattle.instances.specs.Usable.{Usable, marketIn}
 use Rattle.instances.specs.Laws.BookTables.{usable, usable-alike}
-use Rattle.extremes.specs.Places.{PlacesIn}
 use Rattle.laws.specs.Values.{vec}
-use Rattle.laws.specs.Padded.{zeros, zeros-front, zeros-part}
+use Rattle.laws.specs.Padded.{zeros, padded, zeros-front, zeros-part, padded-front, padded-long}
 use Rattle.format.specs.Format.{largest, people}
 use Rattle.format.specs.WellFormed.{WellFormed}
 use Rattle.stable_theory.specs.Stable.Holding.{Same}
 use Rattle.stable_theory.specs.Stable.Market.{Market}
 use Rattle.stable_theory.specs.Stable.Vector.{Mirror}
 use Rattle.stable_theory.specs.Rotations.ExtraVector.{mirror-vector}
-use Rattle.stable_theory.specs.Stable.Alike.{alike-refl, mirror-alike}
 use Rattle.stable_theory.specs.Least.Optimal.{proposer-optimal, receiver-optimal}
 use Rattle.stable_theory.specs.Rotations.Numbering.{total}
 use Rattle.stable_theory.specs.Rotations.RotationAlike.{rotations-alike}
-use Rattle.matchings.specs.declared.places.Places.{Places}
 use Rattle.matchings.specs.BookMarket.{market, market-proper}
 use Rattle.rotation_numbering.specs.declared.numbering.Extent.{Extent}
 use Rattle.rotation_finding.specs.Recording.{Recordable, FoundAll}
 use Rattle.rotation_finding.specs.Searching.{WalkSized, SearchStart}
-use Rattle.rotation_waits.specs.Laws.Left.{left-same}
 use Rattle.rotation_ordering.specs.Ordering.{Unwritten, Numbered}
 use Rattle.rotation_elimination.specs.Laws.Written.{lists-same}
-use Rattle.rotation_numbering.specs.Numbering.{ListRoom, EmptyNotes, NumberingOf}
+use Rattle.rotation_numbering.specs.Numbering.{ListRoom, BestPlaces, EmptyNotes, NumberingOf}
 
 -- four zeros for each man
 pub frames-front : {r : Record} → Usable r → length (take (r .n * 4) (zeros (4 * largest))) ≡ r .n * 4
 frames-front U = zeros-front {m = 4 * largest} (omega (arith, U .few))
 
-module _ {r : Record} (U : Usable r) {s : Places} (P : PlacesIn (r .n) (marketIn r) (proposer-optimal (marketIn r)) s) where
-  -- the first n places are those of the record's persons
-  men-front : Same (marketIn r) (vec (s .men)) (vec (take (r .n) (s .men)))
-  men-front i u = sym (getD-take (r .n) (s .men) i 0 u)
+-- an array of zeros of which the first n were replaced has n numbers at its front
+module _ {n : ℕ} (few : n ≤ largest) (p : List ℕ) (e : length p ≡ n) where
+  pub array-long : n ≤ length (padded largest n p)
+  array-long = omega (arith, padded-long largest p e few)
 
-  women-front : (w : ℕ) → w < r .n → vec (s .women) w ≡ vec (take (r .n) (s .women)) w
-  women-front w v = sym (getD-take (r .n) (s .women) w 0 v)
+  pub array-front : n ≡ length (take n (padded largest n p))
+  array-front = sym (ap length (padded-front largest p e) ∙ e)
 
-  -- what the run asks of the vectors
-  pub run-sized : Sized (r .n) (r .n) (take (r .n) (s .men)) (take (r .n) (s .women))
-  run-sized =
-      record {
-        places = length-take-le (r .n) (s .men) (omega (arith, P .men-long, U .few));
-        bests = length-take-le (r .n) (s .women) (omega (arith, P .women-long, U .few));
-      }
+-- what deferred acceptance leaves there, the men proposing, is the student-best matching
+pub best-places :
+    {r : Record} (p t : List ℕ) → length p ≡ r .n → length t ≡ r .n → BestOff (marketIn r) (vec p) (vec t) →
+    BestPlaces r (take (r .n) (padded largest (r .n) p)) (take (r .n) (padded largest (r .n) t))
+best-places p t e f B = rw (padded-front largest p e, padded-front largest t f) (record { sized = record { places = e; bests = f }; best = B })
 
-  pub run-best : Same (marketIn r) (vec (take (r .n) (s .men))) (proposer-optimal (marketIn r))
-  run-best i u = sym (men-front i u) ∙ P .same i u
+module _ {r : Record} (U : Usable r) {p t : List ℕ} (B : BestPlaces r p t) where
+  -- the women's side of the student-best matching
+  best-mirror : Mirror (marketIn r) (proposer-optimal (marketIn r)) (vec t)
+  best-mirror = mirror-vector (U .men .proper) (B .best .best) (B .best .mirror)
 
-  pub run-sides : Mirror (marketIn r) (vec (take (r .n) (s .men))) (vec (take (r .n) (s .women)))
-  run-sides = mirror-alike (alike-refl (marketIn r)) men-front women-front (P .mirror)
-
-  run-mirror : Mirror (marketIn r) (proposer-optimal (marketIn r)) (vec (take (r .n) (s .women)))
-  run-mirror = mirror-vector (U .men .proper) run-best run-sides
-
-  -- and of the women's places past which rotations are noted
-  best-mirror : Mirror (marketIn r) (proposer-optimal (marketIn r)) (vec (s .women))
-  best-mirror = mirror-vector (U .men .proper) (P .same) (P .mirror)
-
-  women-short : {w : ℕ} → w < r .n → vec (s .women) w ≤ r .n
-  women-short v = omega (arith, P .mirror .right .bound v, U .men .receivers .short v)
+  women-short : {w : ℕ} → w < r .n → vec t w ≤ r .n
+  women-short v = omega (arith, B .best .mirror .right .bound v, U .men .receivers .short v)
 
   -- what the search for all rotations asks
-  pub walk-sized :
-      WalkSized (r .n) (take (r .n) (s .men)) (take (r .n) (s .women)) (take (r .n) (zeros largest)) (take (r .n) (zeros largest)) (take (r .n * 4) (zeros (4 * largest)))
+  pub walk-sized : WalkSized (r .n) p t (take (r .n) (zeros largest)) (take (r .n) (zeros largest)) (take (r .n * 4) (zeros (4 * largest)))
   walk-sized =
       let z = zeros-front (U .few) in
       record {
-        men = run-sized .places;
-        women = run-sized .bests;
+        men = B .sized .places;
+        women = B .sized .bests;
         holders = z;
         marks = z;
         path = frames-front U;
       }
 
   module _ {waits pairs starts left : List ℕ} (E : EmptyNotes (r .n) waits pairs starts left) where
-    pub notes-room : Recordable (r .n) (s .women) waits pairs starts left
+    pub notes-room : Recordable (r .n) t waits pairs starts left
     notes-room =
         let m = mul-le-mul (U .few) (U .few) in
         record {
-          places = omega (arith, P .women-long, U .few);
+          places = omega (arith, B .sized .bests);
           short = women-short;
           cells = E .cells;
           small = omega (arith, U .few);
@@ -97,15 +82,15 @@ module _ {r : Record} (U : Usable r) {s : Places} (P : PlacesIn (r .n) (marketIn
           lefts = E .lefts;
         }
 
-    pub search-start : {worst : Places} → PlacesIn (r .n) (marketIn r) (receiver-optimal (marketIn r)) worst →
-        SearchStart (marketIn r) (worst .men) (s .women) (take (r .n) (s .men)) (take (r .n) (s .women)) waits pairs
-    search-start Q =
+    pub search-start : {u ends : List ℕ} → BestPlaces r p u → length ends ≡ r .n → Same (marketIn r) (vec ends) (receiver-optimal (marketIn r)) →
+        SearchStart (marketIn r) ends u p t waits pairs
+    search-start C l e =
         record {
-          first = run-best;
-          sides = run-mirror;
-          best-sides = best-mirror;
-          last = Q .same;
-          reaches = omega (arith, Q .men-long, U .few);
+          first = B .best .best;
+          sides = best-mirror;
+          best-sides = mirror-vector (U .men .proper) (C .best .best) (C .best .mirror);
+          last = e;
+          reaches = omega arith;
           blank = E .blank;
           room = E .room;
         }
@@ -113,24 +98,22 @@ module _ {r : Record} (U : Usable r) {s : Places} (P : PlacesIn (r .n) (marketIn
   -- what the numbering asks
   pub order-start :
       {waits pairs starts left list : List ℕ} {c : ℕ} → length starts < 65535 → length left ≡ length starts → ListRoom (r .n) list →
-      FoundAll (marketIn r) (vec (s .women)) pairs starts left waits c →
-      Unwritten (marketIn r) (take c starts) waits (take (r .n) (s .women)) (take c left) (take (r .n) (zeros largest)) list
-  order-start {waits} {starts = starts} {left = left} {c = c} b d e F =
-      let n = r .n in
+      FoundAll (marketIn r) (vec t) pairs starts left waits c →
+      Unwritten (marketIn r) (take c starts) waits t (take c left) (take (r .n) (zeros largest)) list
+  order-start {starts = starts} {left = left} {c = c} b d e F =
       let h : length (take c left) ≡ c = length-take-le c left (omega (arith, F .within)) in
       let g : length (take c starts) ≡ c = length-take-le c starts (F .within) in
       record {
-        mirror = run-mirror;
+        mirror = best-mirror;
         counts = record {
-          places = run-sized .bests;
-          short = λ {w} v. omega (arith, women-front w v, women-short v);
-          counts = λ {q} u. let l : q < c = omega arith in
-              getD-take c left q 0 l ∙ (F .counts l ∙ left-same n n waits (vec (s .women)) (vec (take n (s .women))) women-front q);
+          places = B .sized .bests;
+          short = women-short;
+          counts = λ {q} u. let l : q < c = omega arith in getD-take c left q 0 l ∙ F .counts l;
         };
         long = h ∙ sym g;
         few = omega (arith, F .within);
         men = zeros-front (U .few);
-        empty = λ m. zeros-part largest n m;
+        empty = λ m. zeros-part largest (r .n) m;
         room = e;
       }
 
