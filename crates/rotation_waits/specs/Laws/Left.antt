@@ -29,7 +29,7 @@ placed-other v x t {w} ne = rw (ne-eqb w v ne)
 
 module _ (a b : ℕ) (waits : List ℕ) where
   -- the same places, the same number
-  pub left-same : (t u : ℕ → ℕ) → ((w : ℕ) → w < b → t w ≡ u w) → (q : ℕ) → waitsLeft a b waits t q ≡ waitsLeft a b waits u q
+  left-same : (t u : ℕ → ℕ) → ((w : ℕ) → w < b → t w ≡ u w) → (q : ℕ) → waitsLeft a b waits t q ≡ waitsLeft a b waits u q
   unfolding waitsLeft
   left-same t u e q =
       sum-same b (λ w. count (t w) (λ x. eqb (cell waits a w x) (nameOf q))) (λ w. count (u w) (λ x. eqb (cell waits a w x) (nameOf q)))

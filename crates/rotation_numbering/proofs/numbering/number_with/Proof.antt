@@ -9,7 +9,7 @@ use lib.Seq.{length-take-le}
 use Rattle.laws.specs.Padded.{padded, zeros-front, zeros-taken}
 use Rattle.format.specs.Format.{largest}
 use Rattle.extremes.specs.Laws.ExtremePlaces.{zeros-sized}
-use Rattle.format.specs.Record.{Record, lent}
+use Rattle.format.specs.Record.{lent}
 use Rattle.rotation_numbering.specs.Numbering.{BestPlaces}
 use Rattle.rotation_numbering.specs.Laws.Numbers.{array-long, array-front, best-places, order-start, numbered-count}
 use Rattle.rotation_numbering.proofs.numbering.number_with.Statement.{statement}
