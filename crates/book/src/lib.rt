@@ -1,10 +1,10 @@
-// Books: the check (rules 1 to 7), one person's list, and what the crates above read and write: a book, the persons of a
-// request and of a matching, a row of entries and a set of marks. Contracts cite the definitions of crate `format`;
+// Books: the check (rules 1 to 7), one person's list, and what the crates above read and write: a book, the persons of
+// a request and of a matching, a row of entries and a set of marks. Contracts cite the definitions of crate `format`;
 // specs/Laws/ has the laws of the loops.
 //
-// `check`, `framed`, `book_end`, `people_in`, `is_small`, `first_faulty` and the functions on one person's list take any
-// bytes. Those that read or write a person, an entry or a mark, cut a part out or check one list serve the crates above,
-// and have a `requires`.
+// `check`, `framed`, `book_end`, `people_in`, `is_small`, `first_faulty` and the functions on one person's list take
+// any bytes. Those that read or write a person, an entry or a mark, cut a part out or check one list serve the crates
+// above, and have a `requires`.
 mod directory;
 mod field;
 mod frame;

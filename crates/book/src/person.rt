@@ -15,7 +15,8 @@ ghost use Rattle.format.specs.Verdict.{verdictOf};
 ghost use Rattle.format.specs.Format.{people, stretch};
 ghost use Rattle.format.specs.Person.{checkPerson, ifFine, manList, womanList};
 
-// The check of a book, then rule 11: nobody on a side has the number. It may be any number, also one that no byte holds.
+// The check of a book, then rule 11: nobody on a side has the number. It may be any number, also one that no byte
+// holds.
 pub fn check_person(book: &[u8], number: usize) -> Checked
     ensures { λ r. ⌜ verdictOf r ≡ checkPerson (now₀ book) number ⌝ }
 {

@@ -60,13 +60,15 @@ pub record RecordIs (b : List ℕ) (n : ℕ) (r : Record) : Type 0 where
   pub men : SideTables b n 0 (r .mlists) (r .mranks)
   pub women : SideTables b n n (r .wlists) (r .wranks)
 
--- What is made of a book: the check's answer, n, and the tables; on a refusal n is 0, so that the cells may hold anything
+-- What is made of a book: the check's answer, n, and the tables; on a refusal n is 0, so that the cells may hold
+-- anything
 pub record Recorded (b : List ℕ) (i : Instance) (r : Record) : Type 0 where
   pub checked : verdictOf (i .checked) ≡ checkBook b
   pub tables : RecordIs b (numberIf (checkBook b) (people b)) r
   pub number : i .n ≡ r .n
 
--- Tables of a side as they are lent for a book: long enough for its n where that is not too large, and no rank is filled
+-- Tables of a side as they are lent for a book: long enough for its n where that is not too large, and no rank is
+-- filled
 pub record LongTables (b lists ranks : List ℕ) : Type 0 where
   pub lists-long : people b ≤ largest → people b * people b + people b ≤ length lists
   pub ranks-long : people b ≤ largest → people b * people b ≤ length ranks

@@ -16,8 +16,8 @@ ghost use Rattle.format.specs.Check.{checkBook};
 ghost use Rattle.format.specs.Record.{recordOf, Recorded, LongTables};
 ghost use Rattle.record.specs.Filling.{Block, RankRows, SideFilled};
 
-// Makes the record of a book in the lent tables, in which no rank is filled. Of a book that is refused n is 0, and the tables
-// may hold anything afterwards.
+// Makes the record of a book in the lent tables, in which no rank is filled. Of a book that is refused n is 0, and the
+// tables may hold anything afterwards.
 pub fn load(
     book: &[u8],
     mlists: &mut [u16],

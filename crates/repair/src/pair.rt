@@ -106,7 +106,8 @@ fn repair_with(
     )
 }
 
-// The same from what is made of the book: for each book of which that is made. Both repairs of the pair are tried.
+// The same from what is made of the book: for each book of which that is made. A request of two entries names a pair,
+// whose repairs are both tried.
 fn repair_in<'a>(
     answer: Checked,
     n: usize,
@@ -170,8 +171,8 @@ fn check_pair(n: usize, matching: &[u8], pair: Pair, room: usize, gains_room: us
     if n <= wide(woman.0) {
         return refuse(11, 0);
     }
-    let his = woman_of(matching, man);
-    if his.0 != woman.0 {
+    let partner = woman_of(matching, man);
+    if partner.0 != woman.0 {
         return refuse(12, 0);
     }
     if room < n {

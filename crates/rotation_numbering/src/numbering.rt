@@ -31,8 +31,8 @@ const SMALL_MOST: usize = Instance::SMALL * Instance::SMALL / 2;
 const FRAMES: usize = 4 * Instance::LARGEST;
 
 // Finds all rotations of a record, whose tables are lent, from the student-best matching on: p has the men's places in
-// it, t and `best` the women's. The rotations stand in `pairs`, number q from index starts[q] on, with for how many women
-// each waits in `left`, and for whom in `waits`.
+// it, t and `best` the women's. The rotations stand in `pairs`, number q from index starts[q] on, with for how many
+// women each waits in `left`, and for whom in `waits`.
 fn gather<'a>(
     n: usize,
     mlists: &'a [u16],

@@ -1,8 +1,8 @@
--- Tables that are lent for a book are long enough: small ones where they do, and those for the largest n always. Assumes
--- nothing.
+-- Tables that are lent for a book are long enough: small ones where they do, and those for the largest n always.
+-- Assumes nothing.
 use Prim.Native.Nat.{ℕ, _+_, _*_, _≤_}
-use mathlib.Core.Path.{_≡_}
-use mathlib.Core.Bool.{true}
+use mathlib.Core.Path.{_≡_, sym, _∙_}
+use mathlib.Core.Bool.{Bool, true}
 use mathlib.Core.List.{List}
 use native.Mathlib.Omega.{arith}
 use native.Mathlib.Nat.{mul-le-mul}
@@ -30,9 +30,14 @@ for-fewer b k h =
 pub small-upto : (n : ℕ) → isSmall n ≡ true → n ≤ small
 small-upto n e = leb-true n small e
 
-pub small-long :
-    (b : List ℕ) → isSmall (people b) ≡ true → LongTables b (replicate (small * (small + 1)) vacant) (replicate (small * small) vacant)
-small-long b e = for-fewer b small (λ u. small-upto (people b) e)
+-- tables for k persons, as they are declared
+abbrev Declared : List ℕ → ℕ → Type 0
+Declared b k = LongTables b (replicate (k * (k + 1)) vacant) (replicate (k * k) vacant)
 
-pub large-long : (b : List ℕ) → LongTables b (replicate (largest * (largest + 1)) vacant) (replicate (largest * largest) vacant)
-large-long b = for-fewer b largest (λ u. u)
+-- both sides' tables as an entry function lends them: small ones where the test says that they do, and large ones
+-- always
+pub small-tables : {b : List ℕ} {r : Bool} → r ≡ isSmall (people b) → r ≡ true → Declared b small × Declared b small
+small-tables {b} e t = let T = for-fewer b small (λ u. small-upto (people b) (sym e ∙ t)) in (T, T)
+
+pub large-tables : {b : List ℕ} → Declared b largest × Declared b largest
+large-tables {b} = let T = for-fewer b largest (λ u. u) in (T, T)

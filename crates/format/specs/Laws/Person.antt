@@ -11,6 +11,7 @@ use Rattle.format.specs.Verdict.{Verdict, fine, refused, rule}
 use Rattle.format.specs.Laws.Verdict.{all-fine, rule-fine}
 use Rattle.format.specs.Format.{people}
 use Rattle.format.specs.Check.{checkBook}
+use Rattle.format.specs.WellFormed.{fine-well-formed}
 use Rattle.format.specs.Person.{checkPerson, ifFine}
 
 -- where nothing is refused the book is well formed, and its side has the person
@@ -20,6 +21,10 @@ module _ (b : List ℕ) (i : ℕ) (e : checkPerson b i ≡ fine) where
 
   pub person-lt : i < people b
   person-lt = leb-false _ _ (rule-fine (leb (people b) i) 11 0 fine (all-fine (checkBook b) (rule (leb (people b) i) 11 0 fine) e .1) .0)
+
+  -- so the number is a byte
+  pub person-byte : i < 256
+  person-byte = omega (arith, person-lt, fine-well-formed b .0 person-book .few)
 
   -- the list of person i of a side, 0 or 1, is one of the 2 × n
   pub person-list : {side n m : ℕ} → side < 2 → n ≡ people b → m ≡ i → side * n + m < 2 * n

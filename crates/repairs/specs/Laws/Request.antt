@@ -28,7 +28,8 @@ module _ (n : ℕ) (m q : List ℕ) (room gainsRoom : ℕ) where
   asked-13 h = rw (ne-eqb (length q) 2 h)
 
   -- one of two is the pair that it names
-  pub asked-pair : length q ≡ 2 → {s w : ℕ} → s ≡ askingMan q → w ≡ askingWoman q → checkAsked n m q room gainsRoom ≡ checkPair n m s w room gainsRoom
+  pub asked-pair : length q ≡ 2 → {s w : ℕ} → s ≡ askingMan q → w ≡ askingWoman q →
+      checkAsked n m q room gainsRoom ≡ checkPair n m s w room gainsRoom
   unfolding checkAsked
   asked-pair h x y = rw (eq-eqb (length q) 2 h, x, y)
 

@@ -1,5 +1,5 @@
--- A rotation more in the table of those for whom rotations wait: its cells have no name before, since the rotations found
--- before it have moved its men to its places at most, and they are its own afterwards. Assumes nothing.
+-- A rotation more in the table of those for whom rotations wait: its cells have no name before, since the rotations
+-- found before it have moved its men to its places at most, and they are its own afterwards. Assumes nothing.
 use Prim.Native.Nat.{ℕ, suc, _-_, _≤_, _<_}
 use mathlib.Core.Path.{_≡_, refl, sym, _∙_, ap}
 use mathlib.Core.Logic.{⊎-elim}

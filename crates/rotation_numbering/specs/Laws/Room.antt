@@ -1,7 +1,7 @@
 -- Lists that are lent are long enough for the rotations of a record and of a book. Assumes nothing.
 use Prim.Native.Nat.{ℕ, _*_, _/_, _≤_, _<_}
-use mathlib.Core.Path.{_≡_, refl, subst⁻¹}
-use mathlib.Core.Bool.{true}
+use mathlib.Core.Path.{_≡_, refl, sym, _∙_, subst⁻¹}
+use mathlib.Core.Bool.{Bool, true}
 use mathlib.Core.List.{List}
 use native.Mathlib.Omega.{arith}
 use native.Mathlib.Nat.{mul-le-mul}
@@ -30,10 +30,11 @@ empty-notes c p m h u f v g =
       lefts = refl;
     }
 
--- a vacant list is long enough for a book: small tables are lent where they do, and otherwise large ones
-pub small-list : (b : List ℕ) → isSmall (people b) ≡ true → LongList b (replicate (5 * (small * small) / 2) vacant)
-small-list b e f =
-    let h = small-upto (people b) e in
+-- a list as an entry function lends it beside the tables: a small one where the test says that it does, and a large one
+-- always
+pub small-list : (b : List ℕ) {r : Bool} → r ≡ isSmall (people b) → r ≡ true → LongList b (replicate (5 * (small * small) / 2) vacant)
+small-list b e t f =
+    let h = small-upto (people b) (sym e ∙ t) in
     omega (arith, mul-le-mul h h, length-replicate {A = ℕ} (5 * (small * small) / 2) vacant)
 
 pub large-list : (b : List ℕ) → LongList b (replicate (5 * (largest * largest) / 2) vacant)

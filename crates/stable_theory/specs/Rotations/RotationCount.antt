@@ -1,5 +1,5 @@
--- How many rotations there are, and how many pairs they have: each moves at least two proposers, and each of these on by at
--- least one place. Assumes nothing.
+-- How many rotations there are, and how many pairs they have: each moves at least two proposers, and each of these on
+-- by at least one place. Assumes nothing.
 use Prim.Native.Nat.{ℕ, zero, suc, pred, _+_, _-_, _*_, _≤_, _<_}
 use mathlib.Core.Path.{_≡_, refl, _∙_, ap}
 use native.Mathlib.Omega.{arith}

@@ -1,5 +1,5 @@
--- `framed` meets its contract: a frame that is not right is refused, and with a right one the largest entry tells. Assumes
--- nothing.
+-- `framed` meets its contract: a frame that is not right is refused, and with a right one the largest entry tells.
+-- Assumes nothing.
 use mathlib.Core.Path.{_∙_, ap}
 use native.Mathlib.Omega.{arith}
 use borrow.Author.Needs.{needs}

@@ -1,7 +1,7 @@
 -- `write_matching` meets its contract. The loop's invariant: the entries of `out` of the men before `man` are their
 -- women, the others what they were. The measure is the number of men left. Assumes nothing.
 use Prim.Native.Nat.{_-_, _≤_, _<_}
-use mathlib.Core.Path.{_≡_, refl, _∙_, ap, ap₂}
+use mathlib.Core.Path.{refl, _∙_, ap, ap₂}
 use native.Mathlib.Omega.{arith}
 use Rattle.laws.specs.FrontStores.{stores-front, stores-values}
 use Rattle.laws.specs.Stores.{Stores, stores-start}
@@ -70,7 +70,8 @@ loop-again c =
     let his = p .wide3 .ensures .0 ∙ ap (vec (s .args .places .now)) k in
     let e = w .woman-numbered .ensures ∙ a .list-at .ensures .0 ∙ ap₂ (atIn (s .args .n) (s .args .mlists .now)) k his in (
       omega (arith, man-lt t, c .next-man .ensures),
-      rw (c .next-man .ensures, q .put-woman .ensures) (stores-front (l .loop .inv .1) refl e (omega (arith, man-lt t, s .pre .room)) (λ j u z. omega arith)),
+      rw (c .next-man .ensures, q .put-woman .ensures)
+          (stores-front (l .loop .inv .1) refl e (omega (arith, man-lt t, s .pre .room)) (λ j u z. omega arith)),
     )
 
 returns : tie.Need-returns Inv-loop μ-loop

@@ -1,4 +1,5 @@
--- `man_optimal_places` meets its contract: what deferred acceptance leaves of zeros, the men proposing. Assumes nothing.
+-- `man_optimal_places` meets its contract: what deferred acceptance leaves of zeros, the men proposing. Assumes
+-- nothing.
 use mathlib.Core.Path.{sym, _∙_}
 use denote.Ref.{now}
 use borrow.Author.Needs.{needs}

@@ -1,5 +1,5 @@
--- `extreme_with` meets its contract: where nothing is refused the matching is written, and otherwise nothing is. Assumes
--- nothing.
+-- `extreme_with` meets its contract: where nothing is refused the matching is written, and otherwise nothing is.
+-- Assumes nothing.
 use mathlib.Core.Path.{_≡_, sym, _∙_, ap, refl}
 use native.Mathlib.Omega.{arith}
 use lib.ListN.{length}

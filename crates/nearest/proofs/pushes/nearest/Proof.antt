@@ -1,5 +1,5 @@
--- `nearest` meets its contract: s is the number of man m and w that of his woman, the two pushes say how near the repairs
--- up and down are, and each return gives the answer of its case. Assumes nothing.
+-- `nearest` meets its contract: s is the number of man m and w that of his woman, the two pushes say how near the
+-- repairs up and down are, and each return gives the answer of its case. Assumes nothing.
 use Prim.Native.Nat.{_<_}
 use mathlib.Core.Path.{_≡_, refl}
 use lib.ListN.{length}

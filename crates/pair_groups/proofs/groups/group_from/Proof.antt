@@ -1,5 +1,5 @@
--- `group_from` meets its contract: the pass from the student-best places to the mentor-best ones, its other slices zeros.
--- Assumes nothing.
+-- `group_from` meets its contract: the pass from the student-best places to the mentor-best ones, its other slices
+-- zeros. Assumes nothing.
 use mathlib.Core.Path.{sym}
 use native.Mathlib.Omega.{arith}
 use borrow.Author.Needs.{needs}

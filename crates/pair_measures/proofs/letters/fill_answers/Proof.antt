@@ -1,11 +1,11 @@
 -- `fill_answers` meets its contract. The loop's invariant: the letters and distances of the men before s are filled in.
 -- The measure is the number of men left. Assumes nothing.
 use Prim.Native.Nat.{ℕ, _-_, _≤_}
-use mathlib.Core.Path.{_≡_, refl, sym, _∙_}
+use mathlib.Core.Path.{_≡_, refl, _∙_, ap₂}
 use native.Mathlib.Omega.{arith}
 use lib.ListN.{length, length-set}
 use Rattle.laws.specs.Values.{vec}
-use Rattle.pair_measures.specs.Measured.{Filled}
+use Rattle.pair_measures.specs.Measured.{Filled, filledLetter, filledDistance}
 use Rattle.pair_measures.specs.Laws.Measuring.{filled-start, filled-on, filled-end}
 use Rattle.pair_measures.proofs.letters.fill_answers.Statement.{statement}
 use Rattle.pair_measures.proofs.letters.fill_answers.Tie as tie
@@ -31,8 +31,8 @@ loop-again c =
     let I = l .loop .inv in (
       filled-on (l .loop .letters) (l .loop .distances) (I .0) (omega (arith, s .pre .letters-long, I .1, t .loop-test .taken))
           (omega (arith, s .pre .distances-long, I .2, t .loop-test .taken))
-          (rw (← u .lead-far2 .ensures, ← d .lead-far .ensures) (k .letter .ensures))
-          (rw (← u .lead-far2 .ensures, ← d .lead-far .ensures) (c .far .ensures)),
+          (k .letter .ensures ∙ ap₂ (filledLetter (s .args .n)) (u .lead-far2 .ensures) (d .lead-far .ensures))
+          (c .far .ensures ∙ ap₂ (filledDistance (s .args .n)) (u .lead-far2 .ensures) (d .lead-far .ensures)),
       simp length-set (I .1),
       simp length-set (I .2),
       omega arith,

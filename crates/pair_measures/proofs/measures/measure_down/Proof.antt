@@ -1,5 +1,5 @@
--- `measure_down` meets its contract. The loop's invariant: those below s who answer for a group are measured up to their
--- bounds. The measure is the number of men left. Assumes nothing.
+-- `measure_down` meets its contract. The loop's invariant: those below s who answer for a group are measured up to
+-- their bounds. The measure is the number of men left. Assumes nothing.
 use Prim.Native.Nat.{ℕ, _-_, _≤_}
 use mathlib.Core.Path.{_≡_, refl, _∙_}
 use mathlib.Core.Logic.{⊎-elim}

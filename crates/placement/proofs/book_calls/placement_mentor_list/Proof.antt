@@ -1,12 +1,13 @@
 -- `placement_mentor_list` meets its contract: a refusal, or where the list of a number below n lies. Assumes nothing.
+use Prim.Native.Nat.{_+_}
 use mathlib.Core.Path.{_≡_, sym, _∙_, ap}
 use native.Mathlib.Omega.{arith}
 use borrow.Author.Needs.{needs}
-use Rattle.format.specs.Verdict.{fine, verdictOf}
-use Rattle.format.specs.WellFormed.{fine-well-formed}
+use Rattle.format.specs.Verdict.{Verdict, fine, verdictOf}
+use Rattle.format.specs.Format.{people, offset, listLength}
 use Rattle.format.specs.Person.{checkPerson}
-use Rattle.format.specs.Laws.Person.{person-book, person-lt}
-use Rattle.replies.specs.Replies.{refused-reply}
+use Rattle.format.specs.Laws.Person.{person-byte}
+use Rattle.replies.specs.Replies.{replyFor, refused-reply}
 use Rattle.placement.proofs.book_calls.placement_mentor_list.Statement.{statement}
 use Rattle.placement.proofs.book_calls.placement_mentor_list.Tie as tie
 
@@ -17,7 +18,12 @@ returns : tie.Need-returns
 returns c =
     let d : tie.After-check-person = search in
     let t : tie.After-enum-told2 = search in
-    rw (c .verdict-reply .ensures, ← d .check-person .ensures) (refused-reply (ap verdictOf (t .enum-told2 .given .1)) _ _ _ _)
+    let z : tie.Start = search in
+    let s = z .args in
+    let b = s .book .now in
+    c .verdict-reply .ensures
+    ∙ (refused-reply (ap verdictOf (t .enum-told2 .given .1)) 0 0 (offset b (people b + s .mentor)) (listLength b (people b + s .mentor))
+    ∙ ap (λ (v : Verdict). replyFor v (offset b (people b + s .mentor)) (listLength b (people b + s .mentor))) (d .check-person .ensures))
 
 -- the check found nothing
 passed : (c : tie.After-enum-told) → checkPerson (start c .args .book .now) (start c .args .mentor) ≡ fine
@@ -25,11 +31,8 @@ passed c =
     let d : tie.After-check-person = search in
     sym (d .check-person .ensures) ∙ ap verdictOf (c .enum-told .given .1)
 
--- so the number is below n, and a byte
 cast-number : tie.Need-cast-number
-cast-number c =
-    let t : tie.After-enum-told = search in
-    omega (arith, person-lt _ _ (passed t), fine-well-formed _ .0 (person-book _ _ (passed t)) .few)
+cast-number c = let t : tie.After-enum-told = search in omega (arith, person-byte _ _ (passed t))
 
 returns-2 : tie.Need-returns-2
 returns-2 c =

@@ -1,10 +1,10 @@
--- `check_pair` meets its contract: `known` says what is left to try of a man and a woman with numbers below n, `together`
--- of a pair of the matching, and each return rewrites with the tests that led there. Assumes nothing.
+-- `check_pair` meets its contract: `known` says what is left to try of a man and a woman with numbers below n,
+-- `together` of a pair of the matching, and each return rewrites with the tests that led there. Assumes nothing.
 use Prim.Native.Nat.{_<_}
 use mathlib.Core.Path.{_≡_}
 use mathlib.Core.Bool.{not}
 use native.Mathlib.Omega.{arith}
-use lib.Dec.{ltb, leb, eqb}
+use lib.Dec.{ltb, eqb}
 use denote.Ref.{now}
 use borrow.Author.Needs.{needs}
 use borrow.Author.Tests.{eq-eqb, ne-eqb, le-leb, lt-leb, lt-ltb, le-ltb}

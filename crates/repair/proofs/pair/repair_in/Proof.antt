@@ -1,6 +1,6 @@
--- `repair_in` meets its contract: a refusal of the matching, of the request or of its pair, and the answer. `judged` says
--- what the check made of a book and the matching, `passed` that the matching is stable, `named` that the rules of the
--- request are those of the pair, `admitted` that it is not refused. Assumes nothing.
+-- `repair_in` meets its contract: a refusal of the matching, of the request or of its pair, and the answer. `judged`
+-- says what the check made of a book and the matching, `passed` that the matching is stable, `named` that the rules of
+-- the request are those of the pair, `admitted` that it is not refused. Assumes nothing.
 use Prim.Native.Nat.{_<_}
 use mathlib.Core.Path.{_≡_, sym, _∙_, ap}
 use native.Mathlib.Omega.{arith}

@@ -1,5 +1,5 @@
--- `count_with` meets its contract: a refusal, or what the pass over the rotations of the record counts, which are as many
--- as those of the book. `read` says that the book is well formed and the record is its own. Assumes nothing.
+-- `count_with` meets its contract: a refusal, or what the pass over the rotations of the record counts, which are as
+-- many as those of the book. `read` says that the book is well formed and the record is its own. Assumes nothing.
 use mathlib.Core.Path.{refl, sym, _∙_, ap}
 use borrow.Author.Needs.{needs}
 use Rattle.format.specs.Record.{Record, recordOf}

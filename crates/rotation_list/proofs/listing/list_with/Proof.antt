@@ -1,5 +1,5 @@
--- `list_with` meets its contract: where nothing is refused the numbers of the list are written, and otherwise nothing is.
--- `read` says that the book is well formed and the record is its own. Assumes nothing.
+-- `list_with` meets its contract: where nothing is refused the numbers of the list are written, and otherwise nothing
+-- is. `read` says that the book is well formed and the record is its own. Assumes nothing.
 use Prim.Native.Nat.{ℕ}
 use mathlib.Core.Path.{sym, _∙_, ap}
 use borrow.Author.Needs.{needs}

@@ -1,5 +1,5 @@
--- `number_with` meets its contract: the men propose for the student-best places, from which the rotations are found, and
--- then they are numbered. Assumes nothing.
+-- `number_with` meets its contract: the men propose for the student-best places, from which the rotations are found,
+-- and then they are numbered. Assumes nothing.
 use Prim.Native.Nat.{_≤_, _<_}
 use mathlib.Core.Path.{_≡_, sym, _∙_}
 use native.Mathlib.Omega.{arith}

@@ -1,6 +1,7 @@
 -- `pass` meets its contract. The loop's invariant: `found` rotations are eliminated, `low` men are left on the path,
--- which began with man `start`, and what is noted is right for the places now. The measure is the number of places left.
--- `cycle` says that a rotation is found, and `separate` that its frames have different men and women. Assumes nothing.
+-- which began with man `start`, and what is noted is right for the places now. The measure is the number of places
+-- left. `cycle` says that a rotation is found, and `separate` that its frames have different men and women. Assumes
+-- nothing.
 use Prim.Native.Nat.{suc, _-_, _≤_}
 use mathlib.Core.Path.{_≡_, refl, sym, _∙_}
 use native.Mathlib.Omega.{arith}

@@ -1,11 +1,11 @@
 -- `put_sheet` meets its contract: the sheet of the book that ends what was read and of the rest. Small tables are lent
 -- where they do, and otherwise large ones. Assumes nothing.
 use Prim.Native.Nat.{_≤_}
-use mathlib.Core.Path.{sym, _∙_}
-use lib.ListN.{length, take}
+use mathlib.Core.Path.{sym}
+use lib.ListN.{length}
 use lib.Seq.{length-take-le}
 use borrow.Author.Needs.{needs}
-use Rattle.format.specs.Laws.LongTables.{small-long, large-long}
+use Rattle.format.specs.Laws.LongTables.{small-tables, large-tables}
 use Rattle.sheet_lines.specs.Laws.Parts.{end-within, sheet-parts}
 use Rattle.sheet_lines.proofs.sheet.put_sheet.Statement.{statement}
 use Rattle.sheet_lines.proofs.sheet.put_sheet.Tie as tie
@@ -17,11 +17,10 @@ within c = let s : tie.Start = search in end-within (s .args .input .now) (c .bo
 put-with-requires : tie.Need-put-with-requires
 put-with-requires c κs =
     let s : tie.Start = search in
-    let e : tie.After-book-end = search in
     let i : tie.After-is-small = search in
     let t : tie.Then1 = search in
-    let T = small-long (take (e .book-end .result) (s .args .input .now)) (sym (i .is-small .ensures) ∙ t .if1 .taken) in
-    (T, (T, s .pre))
+    let T = small-tables (i .is-small .ensures) (t .if1 .taken) in
+    (T .0, (T .1, s .pre))
 
 returns : tie.Need-returns
 returns c =
@@ -33,9 +32,7 @@ returns c =
 put-with-requires-2 : tie.Need-put-with-requires-2
 put-with-requires-2 c κs =
     let s : tie.Start = search in
-    let e : tie.After-book-end = search in
-    let T = large-long (take (e .book-end .result) (s .args .input .now)) in
-    (T, (T, s .pre))
+    (large-tables .0, (large-tables .1, s .pre))
 
 returns-2 : tie.Need-returns-2
 returns-2 c =

@@ -1,5 +1,5 @@
--- `put_pairs` meets its contract. The loop's invariant: the lines of the men before `man` stand in the buffer, and there
--- is room for the rest. The measure is the number of men left. Assumes nothing.
+-- `put_pairs` meets its contract. The loop's invariant: the lines of the men before `man` stand in the buffer, and
+-- there is room for the rest. The measure is the number of men left. Assumes nothing.
 use Prim.Native.Nat.{_-_, _<_}
 use native.Mathlib.Omega.{arith}
 use Rattle.laws.specs.Values.{vec}
@@ -9,7 +9,8 @@ use Rattle.sheet_text.proofs.lines.put_pairs.Statement.{statement}
 use Rattle.sheet_text.proofs.lines.put_pairs.Tie as tie
 
 abbrev Inv-loop : tie.InvT-loop
-Inv-loop out₀ at n matching letters distances end₀ man₀ out end man = LinesPut (entryIn matching) (vec letters) (vec distances) n out₀ at (man .0) out end
+Inv-loop out₀ at n matching letters distances end₀ man₀ out end man =
+    LinesPut (entryIn matching) (vec letters) (vec distances) n out₀ at (man .0) out end
 
 abbrev μ-loop : tie.MeasureT-loop
 μ-loop out₀ at n matching letters distances end₀ man₀ out end man = n - man .0
@@ -48,7 +49,8 @@ loop-again c =
     let i : tie.After-wide2 Inv-loop μ-loop = search in
     let t = in-loop i in
     let l = at-loop t in
-    lines-on (start l .pre .1) (l .loop .inv) (i .wide2 .ensures .0) (w .woman-of .ensures) (man-lt t) (p .put-pair .ensures) (c .next-man .ensures)
+    lines-on (start l .pre .1) (l .loop .inv) (i .wide2 .ensures .0) (w .woman-of .ensures) (man-lt t) (p .put-pair .ensures)
+    (c .next-man .ensures)
 
 returns : tie.Need-returns Inv-loop μ-loop
 returns c =

@@ -1,23 +1,17 @@
 -- `check` meets its contract: small tables are lent where they do, and otherwise large ones. Assumes nothing.
-use mathlib.Core.Path.{sym, _∙_}
 use borrow.Author.Needs.{needs}
-use Rattle.format.specs.Laws.LongTables.{small-long, large-long}
+use Rattle.format.specs.Laws.LongTables.{small-tables, large-tables}
 use Rattle.stability.proofs.judging.check.Statement.{statement}
 use Rattle.stability.proofs.judging.check.Tie as tie
 
 check-with-requires : tie.Need-check-with-requires
 check-with-requires c κs =
-    let s : tie.Start = search in
     let i : tie.After-is-small = search in
     let t : tie.Then1 = search in
-    let T = small-long (s .args .book .now) (sym (i .is-small .ensures) ∙ t .if1 .taken) in
-    (T, T)
+    small-tables (i .is-small .ensures) (t .if1 .taken)
 
 check-with-requires-2 : tie.Need-check-with-requires-2
-check-with-requires-2 c κs =
-    let s : tie.Start = search in
-    let T = large-long (s .args .book .now) in
-    (T, T)
+check-with-requires-2 c κs = large-tables
 
 pub check-spec : {M : Type 1} → statement M
 check-spec =

@@ -1,5 +1,5 @@
--- `places_of` meets its contract. The loop's invariant: the places of the men before `man` and of their women are stored,
--- and all else is 0. The measure is the number of men left. Assumes nothing.
+-- `places_of` meets its contract. The loop's invariant: the places of the men before `man` and of their women are
+-- stored, and all else is 0. The measure is the number of men left. Assumes nothing.
 use Prim.Native.Nat.{_≤_, _<_, _-_}
 use mathlib.Core.Path.{_≡_, _∙_}
 use native.Mathlib.Omega.{arith}
