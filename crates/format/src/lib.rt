@@ -18,5 +18,6 @@ pub use people::Pair;
 pub use people::Woman;
 pub use record::Instance;
 pub use sizes::LARGEST_INPUT;
+pub use sizes::LARGEST_WEIGHTED_INPUT;
 pub use verdict::Checked;
 pub use verdict::Refusal;

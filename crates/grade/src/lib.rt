@@ -1,4 +1,6 @@
-// The grade of a matching. `grade` takes bytes and has no `requires`.
+// The grade of a matching, plain and with weights. The calls take bytes and have no `requires`.
+mod calls;
 mod robustness;
 
-pub use robustness::grade;
+pub use calls::grade;
+pub use calls::weighted_grade;

@@ -1,4 +1,6 @@
-// The grade of a matching.
+// The grade of a matching with weights.
+//
+// `weights` has the weight of each man, and `carried` that of each woman's man.
 use book::is_small;
 use format::Checked;
 use format::Instance;
@@ -6,18 +8,21 @@ use pair_answers::answer_pairs;
 use record::load;
 use repairs::Graded;
 use stability::judge;
+use weights::check_weights;
 ghost use mathlib.Core.Path.{_≡_};
 ghost use Rattle.laws.specs.Moment.{now₀};
 ghost use Rattle.format.specs.Outcome.{after};
 ghost use Rattle.format.specs.Record.{Record, lent, LongTables};
 ghost use Rattle.format.specs.Verdict.{verdictOf};
 ghost use Rattle.stability.specs.Judge.{FromBook, EachBook};
-ghost use Rattle.repairs.specs.Grade.{gradeOutcome, gradeReply};
+ghost use Rattle.repairs.specs.Grade.{gradeOutcome, weightedGrade};
+ghost use Rattle.weights.specs.Weights.{WeightsGiven};
 
-// The grade of a matching of a book: the largest distance of an answer, less 1, over the pairs that are not fixed; or
-// the first rule that is broken and where.
-pub fn grade(book: &[u8], matching: &[u8]) -> Graded
-    ensures { λ r. ⌜ gradeOutcome r ≡ gradeReply (now₀ book) (now₀ matching) ⌝ }
+// The grade of a matching of a book: the largest total of an answer, less the asking student's own weight, over the
+// pairs that are not fixed; or the first rule that is broken and where.
+pub(crate) fn grade_by(book: &[u8], matching: &[u8], weights: &[usize], carried: &[usize]) -> Graded
+    requires { ⌜ WeightsGiven (now matching) (now weights) (now carried) ⌝ }
+    ensures { λ r. ⌜ gradeOutcome r ≡ weightedGrade (now₀ book) (now₀ matching) (now₀ weights) ⌝ }
 {
     if is_small(book) {
         let mut mlists = [Instance::VACANT; Instance::SMALL_LISTS];
@@ -31,6 +36,8 @@ pub fn grade(book: &[u8], matching: &[u8]) -> Graded
             &mut wlists,
             &mut wranks,
             matching,
+            weights,
+            carried,
         );
     }
     let mut mlists = [Instance::VACANT; Instance::LISTS];
@@ -44,6 +51,8 @@ pub fn grade(book: &[u8], matching: &[u8]) -> Graded
         &mut wlists,
         &mut wranks,
         matching,
+        weights,
+        carried,
     )
 }
 
@@ -55,14 +64,28 @@ fn grade_with(
     wlists: &mut [u16],
     wranks: &mut [u16],
     matching: &[u8],
+    weights: &[usize],
+    carried: &[usize],
 ) -> Graded
     requires { ⌜ LongTables (now book) (now mlists) (now mranks) ⌝ }
     requires { ⌜ LongTables (now book) (now wlists) (now wranks) ⌝ }
-    ensures { λ r. ⌜ gradeOutcome r ≡ gradeReply (now₀ book) (now₀ matching) ⌝ }
+    requires { ⌜ WeightsGiven (now matching) (now weights) (now carried) ⌝ }
+    ensures { λ r. ⌜ gradeOutcome r ≡ weightedGrade (now₀ book) (now₀ matching) (now₀ weights) ⌝ }
 {
     let instance = load(book, mlists, mranks, wlists, wranks);
     let answer = instance.checked;
-    grade_in(answer, instance.n, mlists, mranks, wlists, wranks, matching)
+    let n = instance.n;
+    grade_in(
+        answer,
+        n,
+        mlists,
+        mranks,
+        wlists,
+        wranks,
+        matching,
+        weights,
+        carried,
+    )
 }
 
 // The same from what is made of the book: for each book of which that is made.
@@ -74,14 +97,18 @@ fn grade_in<'a>(
     wlists: &'a [u16],
     wranks: &'a [u16],
     matching: &[u8],
+    weights: &[usize],
+    carried: &[usize],
 ) -> Graded
     ghost { Record }
     requires { λ R. ⌜ lent n mlists mranks wlists wranks ≡ R ⌝ }
     requires { λ R. ⌜ FromBook answer R ⌝ }
-    ensures { λ R r. ⌜ EachBook answer R (λ b. gradeOutcome r ≡ gradeReply b (now₀ matching)) ⌝ }
+    requires { λ _. ⌜ WeightsGiven (now matching) (now weights) (now carried) ⌝ }
+    ensures { λ R r. ⌜ EachBook answer R (λ b. gradeOutcome r ≡ weightedGrade b (now₀ matching) (now₀ weights)) ⌝ }
 {
     let judged = judge(answer, n, mlists, mranks, wlists, wranks, matching);
-    let checked = judged.checked;
+    let stable = judged.checked;
+    let checked = check_weights(stable, n, weights);
     let Checked::Fine = checked else {
         return ungraded(checked);
     };
@@ -95,6 +122,8 @@ fn grade_in<'a>(
         wlists,
         wranks,
         places,
+        weights,
+        carried,
         &mut letters[..],
         &mut distances[..],
     );

@@ -1,8 +1,9 @@
 -- Laws of sums: order, equality, one changed term, and sums over the numbers that pass a test. Assumes nothing.
-use Prim.Native.Nat.{ℕ, zero, suc, _+_, _≤_, _<_}
+use Prim.Native.Nat.{ℕ, zero, suc, _+_, _*_, _≤_, _<_}
 use mathlib.Core.Path.{_≡_, refl, ap}
 use mathlib.Core.Bool.{Bool, true, false}
 use native.Mathlib.Omega.{arith}
+use native.Mathlib.Nat.{suc-mul}
 use Rattle.laws.specs.Choice.{pick, same, tested}
 use Rattle.laws.specs.Sum.{sum, count}
 
@@ -50,6 +51,11 @@ sum-none (suc n) f h = omega (arith, sum-none n f (λ i u. h i (omega arith)), h
 pub sum-zero : (n : ℕ) (f : ℕ → ℕ) → sum n f ≡ 0 → (i : ℕ) → i < n → f i ≡ 0
 sum-zero zero f e i u = absurd (omega arith)
 sum-zero (suc n) f e i u = same i n (λ q. rw q (omega arith)) (λ q. sum-zero n f (omega arith) i (omega arith))
+
+-- n terms of at most k
+pub sum-times : (n k : ℕ) (f : ℕ → ℕ) → ((i : ℕ) → i < n → f i ≤ k) → sum n f ≤ n * k
+sum-times zero k f h = omega arith
+sum-times (suc n) k f h = omega (arith, sum-times n k f (λ i u. h i (omega arith)), h n (omega arith), suc-mul n k)
 
 -- at most n numbers below n pass a test
 pub count-most : (n : ℕ) (p : ℕ → Bool) → count n p ≤ n

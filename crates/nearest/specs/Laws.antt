@@ -4,3 +4,4 @@ pub mod Pushing
 pub mod Nearest
 pub mod Grade
 pub mod Book
+pub mod Weighed

@@ -11,6 +11,8 @@ use Rattle.format.specs.Record.{Record}
 use Rattle.stable_theory.specs.Stable.Market.{Market}
 use Rattle.stable_theory.specs.Stable.Vector.{Stable, Mirror}
 use Rattle.stable_theory.specs.Repairs.Repair.{weight}
+use Rattle.stable_theory.specs.Repairs.BothSides.{Carried}
+use Rattle.pushing.specs.Push.{Weighed}
 use Rattle.stable_theory.specs.Repairs.Answer.{Answer, U, D, F, answerOf}
 use Rattle.matchings.specs.declared.places.Places.{Places}
 use Rattle.instances.specs.Usable.{byMen, byWomen, marketIn}
@@ -31,21 +33,27 @@ pub record Given (R : Record) (men women : List ℕ) : Type 0 where
 abbrev pub GivenIn : Record → Places → Type 0
 GivenIn R p = Given R (p .men) (p .women)
 
+-- A weight for each man, and for each woman that of the man who holds her under p
+pub record BothWeighed (R : Record) (p : ℕ → ℕ) (weights carried : List ℕ) : Type 0 where
+  pub men : Weighed (R .n) weights
+  pub women : Weighed (R .n) carried
+  pub both : Carried (marketIn R) p (vec weights) (vec carried)
+
 -- The letter of an answer, as the code has it
 abbrev pub letterOf : Answer → Letter
 letterOf (U v) = Up
 letterOf (D v) = Down
 letterOf F = Fixed
 
--- How many it moves from p
-abbrev pub farOf : Market → (ℕ → ℕ) → Answer → ℕ
-farOf I p (U v) = weight I (λ i. 1) p v
-farOf I p (D v) = weight I (λ i. 1) p v
-farOf I p F = 0
+-- The total weight of those whom it moves from p, c i being the weight of proposer i
+abbrev pub farOf : Market → (ℕ → ℕ) → (ℕ → ℕ) → Answer → ℕ
+farOf I c p (U v) = weight I c p v
+farOf I c p (D v) = weight I c p v
+farOf I c p F = 0
 
--- What the answer for s counts in the grade: how many it moves, less 1, or 0
-abbrev pub costs : Market → (ℕ → ℕ) → ℕ → ℕ
-costs I p s = farOf I p (answerOf I (λ i. 1) p s) - 1
+-- What the answer for s counts in the grade: that total less his own weight, or 0
+abbrev pub costs : Market → (ℕ → ℕ) → (ℕ → ℕ) → ℕ → ℕ
+costs I c p s = farOf I c p (answerOf I c p s) - c s
 
 -- The vector after it
 abbrev pub vectorAfter : (ℕ → ℕ) → Answer → ℕ → ℕ
@@ -54,12 +62,12 @@ vectorAfter p (D v) = v
 vectorAfter p F = p
 
 -- r says the answer a for the vector p
-pub record Shows (I : Market) (p : ℕ → ℕ) (a : Answer) (r : Nearest) : Type 0 where
+pub record Shows (I : Market) (c p : ℕ → ℕ) (a : Answer) (r : Nearest) : Type 0 where
   pub letter : r .letter ≡ letterOf a
-  pub distance : r .distance ≡ farOf I p a
+  pub distance : r .distance ≡ farOf I c p a
   pub places : (i : ℕ) → i < I .proposers .size → vec (r .men) i ≡ vectorAfter p a i
   pub long : length (r .men) ≡ largest
 
 -- r says the answer for the pair of man s of a stable matching of a record
-abbrev pub ShowsFor : Record → (ℕ → ℕ) → ℕ → Nearest → Type 0
-ShowsFor R p s r = Shows (marketIn R) p (answerOf (marketIn R) (λ k. 1) p s) r
+abbrev pub ShowsFor : Record → (ℕ → ℕ) → (ℕ → ℕ) → ℕ → Nearest → Type 0
+ShowsFor R c p s r = Shows (marketIn R) c p (answerOf (marketIn R) c p s) r

@@ -8,6 +8,9 @@ pub enum Letter {
     Fixed,
 }
 
+// More than any repair weighs: stands for the nearness of a repair that there is not.
+pub const NO_REPAIR: usize = Instance::LARGEST * 255 + 1;
+
 // The nearest repair of a pair: its distance, and the rank of each man's woman in it. Where there is none, 0 and the
 // ranks that were given.
 pub struct Nearest {

@@ -4,6 +4,7 @@ mod answer;
 mod pushes;
 
 pub use answer::Letter;
+pub use answer::NO_REPAIR;
 pub use answer::Nearest;
 pub use pushes::Vectors;
 pub use pushes::nearest;

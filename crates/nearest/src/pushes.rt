@@ -1,23 +1,25 @@
 // The nearest repair of a pair, over lent tables and the two vectors of a stable matching.
 //
 // `men` has the rank of each man's woman on his list and `women` the rank of each woman's man on hers; entries from n
-// on hold anything.
+// on hold anything. `weights` has the weight of each man, and `carried` that of each woman's man.
 use crate::answer::Letter;
+use crate::answer::NO_REPAIR;
 use crate::answer::Nearest;
 use format::Instance;
 use format::Man;
-use pushing::push_count;
+use pushing::push_weight;
 use tables::list_at;
 use tables::wide;
 ghost use mathlib.Core.Path.{_≡_};
 ghost use Prim.Native.Nat.{_≤_, _<_};
 ghost use lib.ListN.{length};
+ghost use Rattle.laws.specs.Moment.{vec₀};
 ghost use Rattle.laws.specs.Values.{vec};
 ghost use Rattle.tables.specs.Lists.{Tables, tables, market, Sound};
-ghost use Rattle.pushing.specs.Push.{Pushable};
+ghost use Rattle.pushing.specs.Push.{Pushable, Weighed};
 ghost use Rattle.format.specs.Record.{Record, lent};
-ghost use Rattle.nearest.specs.Tried.{Tries};
-ghost use Rattle.nearest.specs.Nearest.{Given, ShowsFor};
+ghost use Rattle.nearest.specs.Tried.{noRepair, Tries};
+ghost use Rattle.nearest.specs.Nearest.{Given, BothWeighed, ShowsFor};
 
 // What a push leaves: how far the repair is that it found, and the two vectors.
 pub struct Vectors {
@@ -35,6 +37,7 @@ pub fn pushed<'a>(
     ranks: &'a [u16],
     p: [u16; Instance::LARGEST],
     t: [u16; Instance::LARGEST],
+    weights: &[usize],
     s: usize,
     stop: usize,
 ) -> Vectors
@@ -42,11 +45,12 @@ pub fn pushed<'a>(
     requires { λ K. ⌜ tables n n plists rlists ranks ≡ K ⌝ }
     requires { λ K. ⌜ Sound K × (n ≤ length p) ⌝ }
     requires { λ K. ⌜ Pushable (market K) (vec p) (vec t) s ⌝ }
-    ensures { λ K r. ⌜ Tries (market K) (vec p) s stop (vec (r .proposers)) (vec (r .receivers)) (r .far) ⌝ }
+    requires { λ _. ⌜ Weighed n (now weights) × (stop ≤ noRepair) ⌝ }
+    ensures { λ K r. ⌜ Tries (market K) (vec₀ weights) (vec p) s stop (vec (r .proposers)) (vec (r .receivers)) (r .far) ⌝ }
 {
     let mut proposers = p;
     let mut receivers = t;
-    let far = push_count(
+    let far = push_weight(
         n,
         n,
         plists,
@@ -55,6 +59,7 @@ pub fn pushed<'a>(
         &mut proposers[..n],
         &mut receivers[..n],
         &p[..n],
+        weights,
         s,
         stop,
     );
@@ -75,18 +80,21 @@ pub fn nearest<'a>(
     wranks: &'a [u16],
     men: [u16; Instance::LARGEST],
     women: [u16; Instance::LARGEST],
+    weights: &[usize],
+    carried: &[usize],
     m: Man,
 ) -> Nearest
     ghost { Record }
     requires { λ R. ⌜ lent n mlists mranks wlists wranks ≡ R ⌝ }
     requires { λ R. ⌜ Given R men women × (m .0 < n) ⌝ }
-    ensures { λ R r. ⌜ ShowsFor R (vec men) (m .0) r ⌝ }
+    requires { λ R. ⌜ BothWeighed R (vec men) (now weights) (now carried) ⌝ }
+    ensures { λ R r. ⌜ ShowsFor R (vec₀ weights) (vec men) (m .0) r ⌝ }
 {
     let s = book::wide(m.0);
     let w = list_at(mlists, n, s, wide(men[s]));
-    let up = pushed(n, wlists, mlists, mranks, women, men, w, n + 1);
+    let up = pushed(n, wlists, mlists, mranks, women, men, carried, w, NO_REPAIR);
     let above = up.far;
-    let down = pushed(n, mlists, wlists, wranks, men, women, s, above);
+    let down = pushed(n, mlists, wlists, wranks, men, women, weights, s, above);
     let below = down.far;
     if below < above {
         let places = down.proposers;
@@ -96,7 +104,7 @@ pub fn nearest<'a>(
             men: places,
         };
     }
-    if n < above {
+    if NO_REPAIR <= above {
         return Nearest {
             letter: Letter::Fixed,
             distance: 0,

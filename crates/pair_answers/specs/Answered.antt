@@ -22,15 +22,15 @@ letterByte (D v) = 68
 letterByte F = 70
 
 -- At index s the two lists have the letter and the distance of the answer for the pair of s
-pub record AnswerAt (I : Market) (p : ℕ → ℕ) (letters distances : List ℕ) (s : ℕ) : Type 0 where
-  pub letter : vec letters s ≡ letterByte (answerOf I (λ i. 1) p s)
-  pub distance : vec distances s ≡ farOf I p (answerOf I (λ i. 1) p s)
+pub record AnswerAt (I : Market) (c p : ℕ → ℕ) (letters distances : List ℕ) (s : ℕ) : Type 0 where
+  pub letter : vec letters s ≡ letterByte (answerOf I c p s)
+  pub distance : vec distances s ≡ farOf I c p (answerOf I c p s)
 
--- All pairs of the matching with these places, over a record: their letters and distances, the largest cost, and how
+-- All pairs of the matching with these places, over a record, where man i weighs c i: their letters and distances, the largest cost, and how
 -- many rotations there are
-pub record PairsAnswered (R : Record) (p : Places) (letters distances : List ℕ) (r : Summary) : Type 0 where
+pub record PairsAnswered (R : Record) (c : ℕ → ℕ) (p : Places) (letters distances : List ℕ) (r : Summary) : Type 0 where
   pub letters-long : R .n ≤ length letters
   pub distances-long : R .n ≤ length distances
-  pub at : {s : ℕ} → s < R .n → AnswerAt (marketIn R) (vec (p .men)) letters distances s
-  pub largest-cost : r .grade ≡ maximum (R .n) (costs (marketIn R) (vec (p .men)))
+  pub at : {s : ℕ} → s < R .n → AnswerAt (marketIn R) c (vec (p .men)) letters distances s
+  pub largest-cost : r .grade ≡ maximum (R .n) (costs (marketIn R) c (vec (p .men)))
   pub all-rotations : r .rotations ≡ total (marketIn R)

@@ -8,10 +8,11 @@ use pair_measures::measure;
 ghost use mathlib.Core.Path.{_≡_};
 ghost use Prim.Native.Nat.{_≤_};
 ghost use lib.ListN.{length};
-ghost use Rattle.laws.specs.Moment.{now₁};
+ghost use Rattle.laws.specs.Moment.{now₁, vec₀};
+ghost use Rattle.laws.specs.Values.{vec};
 ghost use Rattle.format.specs.Record.{Record, lent};
 ghost use Rattle.instances.specs.Usable.{Usable};
-ghost use Rattle.nearest.specs.Nearest.{GivenIn};
+ghost use Rattle.nearest.specs.Nearest.{GivenIn, BothWeighed};
 ghost use Rattle.pair_answers.specs.Answered.{PairsAnswered};
 
 // The grade of a matching, and the number of rotations.
@@ -21,7 +22,8 @@ pub struct Summary {
 }
 
 // The letter and the distance of the answer for each pair, to the fronts of the two slices, the grade and the number of
-// rotations. One push up and one down serve all men whose pairs have the same repair.
+// rotations, where `weights` has the weight of each man and `carried` that of each woman's man. One push up and one
+// down serve all men whose pairs have the same repair.
 pub fn answer_pairs<'a>(
     n: usize,
     mlists: &'a [u16],
@@ -29,14 +31,16 @@ pub fn answer_pairs<'a>(
     wlists: &'a [u16],
     wranks: &'a [u16],
     places: Places,
+    weights: &[usize],
+    carried: &[usize],
     letters: &mut [u8],
     distances: &mut [usize],
 ) -> Summary
     ghost { Record }
     requires { λ R. ⌜ lent n mlists mranks wlists wranks ≡ R ⌝ }
-    requires { λ R. ⌜ Usable R × GivenIn R places ⌝ }
+    requires { λ R. ⌜ Usable R × GivenIn R places × BothWeighed R (vec (places .men)) (now weights) (now carried) ⌝ }
     requires { λ _. ⌜ (n ≤ length (now letters)) × (n ≤ length (now distances)) ⌝ }
-    ensures { λ R r. ⌜ PairsAnswered R places (now₁ letters) (now₁ distances) r ⌝ }
+    ensures { λ R r. ⌜ PairsAnswered R (vec₀ weights) places (now₁ letters) (now₁ distances) r ⌝ }
 {
     let men = places.men;
     let women = places.women;
@@ -53,6 +57,8 @@ pub fn answer_pairs<'a>(
         wranks,
         men,
         women,
+        weights,
+        carried,
         &down,
         &up,
         &mut above[..],
@@ -60,7 +66,7 @@ pub fn answer_pairs<'a>(
     );
     fill_answers(n, &down, &up, &below, &above, letters, distances);
     Summary {
-        grade: grade_of(distances, n),
+        grade: grade_of(distances, weights, n),
         rotations: groups.rotations,
     }
 }

@@ -5,31 +5,26 @@ ghost use lib.ListN.{length};
 ghost use Rattle.laws.specs.Maximum.{maximum};
 ghost use Rattle.laws.specs.Moment.{vec₀};
 
-// The largest of the first n distances, less 1; 0 where all are 0.
-pub(crate) fn grade_of(distances: &[usize], n: usize) -> usize
-    requires { ⌜ n ≤ length (now distances) ⌝ }
-    ensures { λ r. ⌜ r ≡ maximum n (vec₀ distances) - 1 ⌝ }
+// A distance less the asking man's own weight: 0 for a fixed pair, whose distance is 0.
+fn less_own(distance: usize, own: usize) -> usize
+    ensures { λ r. ⌜ r ≡ distance - own ⌝ }
 {
-    let most = largest_of(distances, n);
-    if most == 0 {
-        return 0;
-    }
-    most - 1
+    if own < distance { distance - own } else { 0 }
 }
 
-// The largest of the first n numbers, or 0.
-fn largest_of(numbers: &[usize], n: usize) -> usize
-    requires { ⌜ n ≤ length (now numbers) ⌝ }
-    ensures { λ r. ⌜ r ≡ maximum n (vec₀ numbers) ⌝ }
+// The largest of the first n distances, each less the man's own weight.
+pub(crate) fn grade_of(distances: &[usize], weights: &[usize], n: usize) -> usize
+    requires { ⌜ (n ≤ length (now distances)) × (n ≤ length (now weights)) ⌝ }
+    ensures { λ r. ⌜ r ≡ maximum n (λ s. vec₀ distances s - vec₀ weights s) ⌝ }
 {
     let mut most = 0;
-    let mut i = 0;
-    while i < n {
-        let next = numbers[i];
+    let mut s = 0;
+    while s < n {
+        let next = less_own(distances[s], weights[s]);
         if most < next {
             most = next;
         }
-        i += 1;
+        s += 1;
     }
     most
 }

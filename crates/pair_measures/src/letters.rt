@@ -1,30 +1,31 @@
 // The letter and the distance of each answer, from the distances that are measured for the groups.
 use crate::measures::lead_far;
+use nearest::NO_REPAIR;
 ghost use mathlib.Core.Path.{_≡_};
 ghost use Rattle.laws.specs.Moment.{vec₀, vec₁};
 ghost use Rattle.pair_measures.specs.Measured.{Fillable, Filled, filledLetter, filledDistance};
 
 // The letter of an answer: the nearer repair, up where both are as near, and F where there is none.
-fn letter(n: usize, above: usize, below: usize) -> u8
-    ensures { λ r. ⌜ r ≡ filledLetter n above below ⌝ }
+fn letter(above: usize, below: usize) -> u8
+    ensures { λ r. ⌜ r ≡ filledLetter above below ⌝ }
 {
     if below < above {
         return b'D';
     }
-    if n < above {
+    if NO_REPAIR <= above {
         return b'F';
     }
     b'U'
 }
 
 // Its distance.
-fn far(n: usize, above: usize, below: usize) -> usize
-    ensures { λ r. ⌜ r ≡ filledDistance n above below ⌝ }
+fn far(above: usize, below: usize) -> usize
+    ensures { λ r. ⌜ r ≡ filledDistance above below ⌝ }
 {
     if below < above {
         return below;
     }
-    if n < above {
+    if NO_REPAIR <= above {
         return 0;
     }
     above
@@ -47,8 +48,8 @@ pub fn fill_answers(
     while s < n {
         let near = lead_far(n, down[s], below);
         let over = lead_far(n, up[s], above);
-        letters[s] = letter(n, over, near);
-        distances[s] = far(n, over, near);
+        letters[s] = letter(over, near);
+        distances[s] = far(over, near);
         s += 1;
     }
 }

@@ -1,12 +1,14 @@
 // How far the repairs up and down are, measured once for each group of men whose pairs have the same repair.
 //
-// `up` and `down` have who answers for each man, and n where there is no repair.
+// `up` and `down` have who answers for each man, and n where there is no repair. `weights` has the weight of each man,
+// and `carried` that of each woman's man.
 use format::Instance;
+use nearest::NO_REPAIR;
 use nearest::pushed;
 use tables::list_at;
 use tables::wide;
 ghost use mathlib.Core.Path.{_≡_};
-ghost use Prim.Native.Nat.{ℕ, _+_, _≤_, _<_};
+ghost use Prim.Native.Nat.{ℕ, _≤_, _<_};
 ghost use lib.ListN.{length};
 ghost use Rattle.laws.specs.Moment.{vec₀, vec₁};
 ghost use Rattle.laws.specs.Values.{vec};
@@ -14,16 +16,18 @@ ghost use Rattle.stable_theory.specs.Repairs.Repair.{IsDown, IsUp};
 ghost use Rattle.format.specs.Record.{Record, lent};
 ghost use Rattle.instances.specs.Usable.{marketIn};
 ghost use Rattle.rotation_pass.specs.Groups.{Grouped};
-ghost use Rattle.nearest.specs.Nearest.{Given};
+ghost use Rattle.pushing.specs.Push.{Weighed};
+ghost use Rattle.nearest.specs.Tried.{noRepair};
+ghost use Rattle.nearest.specs.Nearest.{Given, BothWeighed};
 ghost use Rattle.pair_measures.specs.Measured.{leadFar, Measured, Bounded, Boundable, Measurable, BothMeasured};
 
-// The distance that is measured for a man, from that of the one who answers for him; n + 1 where nobody does.
+// The distance that is measured for a man, from that of the one who answers for him; NO_REPAIR where nobody does.
 pub(crate) fn lead_far(n: usize, lead: u16, far: &[usize]) -> usize
     requires { ⌜ (n ≤ length (now far)) × (n < 65536) ⌝ }
     ensures { λ r. ⌜ r ≡ leadFar n lead (vec₀ far) ⌝ }
 {
     let b = wide(lead);
-    if b < n { far[b] } else { n + 1 }
+    if b < n { far[b] } else { NO_REPAIR }
 }
 
 // The distance of the repair up of each man who answers for his group: his woman is pushed on the other side.
@@ -35,20 +39,23 @@ fn measure_up<'a>(
     wranks: &'a [u16],
     men: [u16; Instance::LARGEST],
     women: [u16; Instance::LARGEST],
+    weights: &[usize],
+    carried: &[usize],
     up: &[u16],
     above: &mut [usize],
 )
     ghost { Record }
     requires { λ R. ⌜ lent n mlists mranks wlists wranks ≡ R ⌝ }
-    requires { λ R. ⌜ Given R men women ⌝ }
+    requires { λ R. ⌜ Given R men women × BothWeighed R (vec men) (now weights) (now carried) ⌝ }
     requires { λ _. ⌜ (n ≤ length (now up)) × (n ≤ length (now above)) ⌝ }
-    ensures { λ R _. ⌜ Measured (marketIn R) (vec men) n (IsUp (marketIn R) (vec men)) (vec₀ up) (λ s. n + 1) (vec₁ above) ⌝ }
+    ensures { λ R _. ⌜ Measured (marketIn R) (vec₀ weights) (vec men) n (IsUp (marketIn R) (vec men)) (vec₀ up) (λ s. noRepair)
+        (vec₁ above) ⌝ }
 {
     let mut s = 0;
     while s < n {
         if wide(up[s]) == s {
             let w = list_at(mlists, n, s, wide(men[s]));
-            let found = pushed(n, wlists, mlists, mranks, women, men, w, n + 1);
+            let found = pushed(n, wlists, mlists, mranks, women, men, carried, w, NO_REPAIR);
             above[s] = found.far;
         }
         s += 1;
@@ -83,21 +90,23 @@ fn measure_down<'a>(
     wranks: &'a [u16],
     men: [u16; Instance::LARGEST],
     women: [u16; Instance::LARGEST],
+    weights: &[usize],
     down: &[u16],
     bound: &[usize],
     below: &mut [usize],
 )
     ghost { Record }
     requires { λ R. ⌜ lent n mlists mranks wlists wranks ≡ R ⌝ }
-    requires { λ R. ⌜ Given R men women ⌝ }
+    requires { λ R. ⌜ Given R men women × Weighed n (now weights) ⌝ }
     requires { λ _. ⌜ (n ≤ length (now down)) × (n ≤ length (now bound)) × (n ≤ length (now below)) ⌝ }
-    requires { λ _. ⌜ ((s : ℕ) → s < n → vec (now bound) s ≤ n + 1) ⌝ }
-    ensures { λ R _. ⌜ Measured (marketIn R) (vec men) n (IsDown (marketIn R) (vec men)) (vec₀ down) (vec₀ bound) (vec₁ below) ⌝ }
+    requires { λ _. ⌜ ((s : ℕ) → s < n → vec (now bound) s ≤ noRepair) ⌝ }
+    ensures { λ R _. ⌜ Measured (marketIn R) (vec₀ weights) (vec men) n (IsDown (marketIn R) (vec men)) (vec₀ down) (vec₀ bound)
+        (vec₁ below) ⌝ }
 {
     let mut s = 0;
     while s < n {
         if wide(down[s]) == s {
-            let found = pushed(n, mlists, wlists, wranks, men, women, s, bound[s]);
+            let found = pushed(n, mlists, wlists, wranks, men, women, weights, s, bound[s]);
             below[s] = found.far;
         }
         s += 1;
@@ -114,6 +123,8 @@ pub fn measure<'a>(
     wranks: &'a [u16],
     men: [u16; Instance::LARGEST],
     women: [u16; Instance::LARGEST],
+    weights: &[usize],
+    carried: &[usize],
     down: &[u16],
     up: &[u16],
     above: &mut [usize],
@@ -121,13 +132,25 @@ pub fn measure<'a>(
 )
     ghost { Record }
     requires { λ R. ⌜ lent n mlists mranks wlists wranks ≡ R ⌝ }
-    requires { λ R. ⌜ Given R men women ⌝ }
+    requires { λ R. ⌜ Given R men women × BothWeighed R (vec men) (now weights) (now carried) ⌝ }
     requires { λ R. ⌜ Grouped n (IsUp (marketIn R) (vec men)) (vec (now up)) ⌝ }
     requires { λ _. ⌜ Measurable n (now down) (now up) (now above) (now below) ⌝ }
-    ensures { λ R _. ⌜ BothMeasured (marketIn R) (vec men) n (vec₀ down) (vec₀ up) (vec₁ above) (vec₁ below) ⌝ }
+    ensures { λ R _. ⌜ BothMeasured (marketIn R) (vec₀ weights) (vec men) n (vec₀ down) (vec₀ up) (vec₁ above) (vec₁ below) ⌝ }
 {
     let mut bound = [0usize; Instance::LARGEST];
-    measure_up(n, mlists, mranks, wlists, wranks, men, women, up, above);
+    measure_up(
+        n,
+        mlists,
+        mranks,
+        wlists,
+        wranks,
+        men,
+        women,
+        weights,
+        carried,
+        up,
+        above,
+    );
     bound_down(n, down, up, above, &mut bound[..]);
     measure_down(
         n,
@@ -137,6 +160,7 @@ pub fn measure<'a>(
         wranks,
         men,
         women,
+        weights,
         down,
         &bound,
         below,

@@ -9,6 +9,7 @@ mod repair_calls;
 mod rotation_calls;
 mod set_calls;
 mod sheet_calls;
+mod weighted_calls;
 
 pub use book_calls::placement_book_size;
 pub use book_calls::placement_check_book;
@@ -26,3 +27,6 @@ pub use rotation_calls::placement_rotations;
 pub use set_calls::placement_matching_to_set;
 pub use set_calls::placement_set_to_matching;
 pub use sheet_calls::placement_sheet;
+pub use weighted_calls::placement_weighted_grade;
+pub use weighted_calls::placement_weighted_repair;
+pub use weighted_calls::placement_weighted_sheet;

@@ -17,6 +17,7 @@ ghost use Rattle.laws.specs.Values.{vec};
 ghost use Rattle.format.specs.Format.{largest};
 ghost use Rattle.format.specs.Record.{Record, lent};
 ghost use Rattle.tables.specs.Lists.{Tables, tables, market, Sound, Sized};
+ghost use Rattle.pushing.specs.Push.{Weighed};
 ghost use Rattle.instances.specs.Usable.{Usable};
 ghost use Rattle.precedence.specs.ListRead.{firstMan, nextWoman, placeAfter, Front};
 ghost use Rattle.precedence.specs.LeastPast.{PushableTo, LeastFrom, SomePast, LeastPast};
@@ -60,7 +61,7 @@ fn copy_places(places: &[u16], out: &mut [u16])
 }
 
 // Pushes proposer s on until he is at `goal` or later: p, with its other side t, becomes the least stable vector in
-// which he is. `was` has p as it is before each push.
+// which he is. `was` has p as it is before each push. Whom it moves is not weighed here: the weights may be any.
 fn push_to<'a>(
     a: usize,
     b: usize,
@@ -70,6 +71,7 @@ fn push_to<'a>(
     p: &mut [u16],
     t: &mut [u16],
     was: &mut [u16],
+    weights: &[usize],
     s: usize,
     goal: usize,
 )
@@ -77,12 +79,13 @@ fn push_to<'a>(
     requires { λ K. ⌜ tables a b plists rlists ranks ≡ K ⌝ }
     requires { λ K. ⌜ Sound K ⌝ }
     requires { λ _. ⌜ Sized a b (now p) (now t) × (length (now was) ≡ a) ⌝ }
+    requires { λ _. ⌜ Weighed a (now weights) × (a < 65536) ⌝ }
     requires { λ K. ⌜ PushableTo (market K) (vec (now p)) (vec (now t)) s goal ⌝ }
     ensures { λ K _. ⌜ LeastFrom (market K) s goal (vec₁ p) ⌝ }
 {
     while wide(p[s]) < goal {
         copy_places(p, was);
-        push(a, b, plists, rlists, ranks, p, t, was, s);
+        push(a, b, plists, rlists, ranks, p, t, was, weights, s);
     }
 }
 
@@ -110,6 +113,7 @@ pub(crate) fn least_past<'a>(
     let mut men = places.men;
     let mut women = places.women;
     let mut was = [0u16; Instance::LARGEST];
+    let weights = [1usize; Instance::LARGEST];
     push_to(
         n,
         n,
@@ -119,6 +123,7 @@ pub(crate) fn least_past<'a>(
         &mut men[..n],
         &mut women[..n],
         &mut was[..n],
+        &weights,
         s,
         goal,
     );

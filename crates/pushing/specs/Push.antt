@@ -1,12 +1,14 @@
 -- A proposer pushed on by one place from a stable vector: what the code asks and answers. Assumes nothing.
 use Prim.Native.Nat.{ℕ, _≤_, _<_}
 use mathlib.Core.Path.{_≡_}
+use mathlib.Core.List.{List}
 use mathlib.Core.Bool.{Bool, true, false}
-use Rattle.laws.specs.Sum.{count}
+use lib.ListN.{length}
+use Rattle.laws.specs.Values.{vec}
 use Rattle.stable_theory.specs.Stable.Market.{Market}
 use Rattle.stable_theory.specs.Stable.Vector.{Stable, Mirror, Before}
 use Rattle.stable_theory.specs.Least.Settle.{least, onward}
-use Rattle.stable_theory.specs.Repairs.Repair.{moved}
+use Rattle.stable_theory.specs.Repairs.Repair.{weight}
 
 -- No stable vector is at or after q
 abbrev pub None : Market → (ℕ → ℕ) → Type 0
@@ -19,13 +21,17 @@ pub record Pushable (I : Market) (p t : ℕ → ℕ) (s : ℕ) : Type 0 where
   pub proposer : s < I .proposers .size
   pub placed : p s < I .proposers .len s
 
--- How many proposers the least settled vector at or after moves from p: r, if that vector is stable and they are fewer
--- than stop; otherwise r is stop
-pub record PushCounted (I : Market) (p : ℕ → ℕ) (s stop r : ℕ) : Type 0 where
-  pub near :
-      r < stop → Stable I (least I (onward p s)) × (r ≡ count (I .proposers .size) (moved p (least I (onward p s))))
-  pub far : stop ≤ r → Stable I (least I (onward p s)) → stop ≤ count (I .proposers .size) (moved p (least I (onward p s)))
+-- The total weight of the proposers whom the least settled vector at or after moves from p, c i being that of proposer
+-- i: r, if that vector is stable and the total is below stop; otherwise r is stop
+pub record PushWeighed (I : Market) (c p : ℕ → ℕ) (s stop r : ℕ) : Type 0 where
+  pub near : r < stop → Stable I (least I (onward p s)) × (r ≡ weight I c p (least I (onward p s)))
+  pub far : stop ≤ r → Stable I (least I (onward p s)) → stop ≤ weight I c p (least I (onward p s))
   pub most : r ≤ stop
+
+-- Weights of so many proposers, each at most 255
+pub record Weighed (a : ℕ) (weights : List ℕ) : Type 0 where
+  pub long : a ≤ length weights
+  pub light : {i : ℕ} → i < a → vec weights i ≤ 255
 
 -- p′ is the least settled vector at or after, it is stable, and t′ is its other side
 pub record PushedTo (I : Market) (p : ℕ → ℕ) (s : ℕ) (p′ t′ : ℕ → ℕ) : Type 0 where

@@ -7,14 +7,14 @@ use Rattle.format.specs.declared.verdict.Checked.{Checked}
 use Rattle.format.specs.Record.{Record}
 use Rattle.stability.specs.Judge.{EachBook}
 use Rattle.repairs.specs.declared.answer.Answer.{Answer}
-use Rattle.repairs.specs.Repair.{repairOutcome, repairReply, repairMatching, repairGains}
+use Rattle.repairs.specs.Repair.{repairOutcome, weightedReply, weightedMatching, weightedGains}
 
--- The answer to the request q, and the two buffers, which held out and gains
-pub record Repaired (b m q out : List ℕ) (gains : List ℤ) (r : Answer) (out′ : List ℕ) (gains′ : List ℤ) : Type 0 where
-  pub reply : repairOutcome r ≡ repairReply b m q out gains
-  pub bytes : out′ ≡ repairMatching b m q out gains
-  pub places : gains′ ≡ repairGains b m q out gains
+-- The answer to the request q with the weights k, and the two buffers, which held out and gains
+pub record Repaired (b m k q out : List ℕ) (gains : List ℤ) (r : Answer) (out′ : List ℕ) (gains′ : List ℤ) : Type 0 where
+  pub reply : repairOutcome r ≡ weightedReply b m k q out gains
+  pub bytes : out′ ≡ weightedMatching b m k q out gains
+  pub places : gains′ ≡ weightedGains b m k q out gains
 
 -- The same of each book of which the check's answer and the record are made
-abbrev pub Repairs : Checked → Record → (m q out : List ℕ) → List ℤ → Answer → List ℕ → List ℤ → Type 0
-Repairs answer R m q out gains r out′ gains′ = EachBook answer R (λ b. Repaired b m q out gains r out′ gains′)
+abbrev pub Repairs : Checked → Record → (m k q out : List ℕ) → List ℤ → Answer → List ℕ → List ℤ → Type 0
+Repairs answer R m k q out gains r out′ gains′ = EachBook answer R (λ b. Repaired b m k q out gains r out′ gains′)

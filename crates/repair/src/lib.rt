@@ -1,4 +1,6 @@
-// The repair of one pair. `repair` takes bytes and has no `requires`.
+// The repair of one pair, plain and with weights. The calls take bytes and have no `requires`.
+mod calls;
 mod pair;
 
-pub use pair::repair;
+pub use calls::repair;
+pub use calls::weighted_repair;

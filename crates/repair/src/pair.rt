@@ -1,4 +1,6 @@
-// Repair of a pair: the request's rules, the nearest repair, and the two result buffers.
+// Repair of a pair with weights: the request's rules, the nearest repair, and the two result buffers.
+//
+// `weights` has the weight of each man, and `carried` that of each woman's man.
 use book::is_small;
 use book::pair_in;
 use book::refuse;
@@ -11,6 +13,7 @@ use nearest::nearest;
 use record::load;
 use repairs::Answer;
 use stability::judge;
+use weights::check_weights;
 ghost use mathlib.Core.Path.{_≡_};
 ghost use Prim.Native.Nat.{_≤_};
 ghost use lib.ListN.{length};
@@ -19,23 +22,30 @@ ghost use Rattle.format.specs.Outcome.{after};
 ghost use Rattle.format.specs.Record.{Record, lent, LongTables};
 ghost use Rattle.format.specs.Verdict.{verdictOf};
 ghost use Rattle.stability.specs.Judge.{FromBook};
-ghost use Rattle.repairs.specs.Repair.{fixed, repairOutcome, repairReply, repairMatching, repairGains};
+ghost use Rattle.repairs.specs.Repair.{fixed, repairOutcome, weightedReply, weightedMatching, weightedGains};
 ghost use Rattle.repairs.specs.Request.{checkPair};
+ghost use Rattle.weights.specs.Weights.{WeightsGiven};
 ghost use Rattle.repair.specs.Repaired.{Repairs};
 
 // The repair of the pair that the request names, student then mentor, or the first rule that is broken and where. A
 // repair's matching goes to the front of `out` and each student's places gained to that of `gains`; past n entries,
 // and otherwise, both stay as they were.
-pub fn repair(
+pub(crate) fn repair_by(
     book: &[u8],
     matching: &[u8],
+    weights: &[usize],
+    carried: &[usize],
     request: &[u8],
     out: &mut [u8],
     gains: &mut [i8],
 ) -> Answer
-    ensures reply { λ r. ⌜ repairOutcome r ≡ repairReply (now₀ book) (now₀ matching) (now₀ request) (now₀ out) (now₀ gains) ⌝ }
-    ensures bytes { λ _. ⌜ now₁ out ≡ repairMatching (now₀ book) (now₀ matching) (now₀ request) (now₀ out) (now₀ gains) ⌝ }
-    ensures places { λ _. ⌜ now₁ gains ≡ repairGains (now₀ book) (now₀ matching) (now₀ request) (now₀ out) (now₀ gains) ⌝ }
+    requires { ⌜ WeightsGiven (now matching) (now weights) (now carried) ⌝ }
+    ensures reply { λ r. ⌜ repairOutcome r ≡ weightedReply (now₀ book) (now₀ matching) (now₀ weights) (now₀ request) (now₀ out)
+        (now₀ gains) ⌝ }
+    ensures bytes { λ _. ⌜ now₁ out ≡ weightedMatching (now₀ book) (now₀ matching) (now₀ weights) (now₀ request) (now₀ out)
+        (now₀ gains) ⌝ }
+    ensures places { λ _. ⌜ now₁ gains ≡ weightedGains (now₀ book) (now₀ matching) (now₀ weights) (now₀ request) (now₀ out)
+        (now₀ gains) ⌝ }
 {
     if is_small(book) {
         let mut mlists = [Instance::VACANT; Instance::SMALL_LISTS];
@@ -49,6 +59,8 @@ pub fn repair(
             &mut wlists,
             &mut wranks,
             matching,
+            weights,
+            carried,
             request,
             out,
             gains,
@@ -65,6 +77,8 @@ pub fn repair(
         &mut wlists,
         &mut wranks,
         matching,
+        weights,
+        carried,
         request,
         out,
         gains,
@@ -79,15 +93,21 @@ fn repair_with(
     wlists: &mut [u16],
     wranks: &mut [u16],
     matching: &[u8],
+    weights: &[usize],
+    carried: &[usize],
     request: &[u8],
     out: &mut [u8],
     gains: &mut [i8],
 ) -> Answer
     requires { ⌜ LongTables (now book) (now mlists) (now mranks) ⌝ }
     requires { ⌜ LongTables (now book) (now wlists) (now wranks) ⌝ }
-    ensures reply { λ r. ⌜ repairOutcome r ≡ repairReply (now₀ book) (now₀ matching) (now₀ request) (now₀ out) (now₀ gains) ⌝ }
-    ensures bytes { λ _. ⌜ now₁ out ≡ repairMatching (now₀ book) (now₀ matching) (now₀ request) (now₀ out) (now₀ gains) ⌝ }
-    ensures places { λ _. ⌜ now₁ gains ≡ repairGains (now₀ book) (now₀ matching) (now₀ request) (now₀ out) (now₀ gains) ⌝ }
+    requires { ⌜ WeightsGiven (now matching) (now weights) (now carried) ⌝ }
+    ensures reply { λ r. ⌜ repairOutcome r ≡ weightedReply (now₀ book) (now₀ matching) (now₀ weights) (now₀ request) (now₀ out)
+        (now₀ gains) ⌝ }
+    ensures bytes { λ _. ⌜ now₁ out ≡ weightedMatching (now₀ book) (now₀ matching) (now₀ weights) (now₀ request) (now₀ out)
+        (now₀ gains) ⌝ }
+    ensures places { λ _. ⌜ now₁ gains ≡ weightedGains (now₀ book) (now₀ matching) (now₀ weights) (now₀ request) (now₀ out)
+        (now₀ gains) ⌝ }
 {
     let instance = load(book, mlists, mranks, wlists, wranks);
     let answer = instance.checked;
@@ -100,6 +120,8 @@ fn repair_with(
         wlists,
         wranks,
         matching,
+        weights,
+        carried,
         request,
         out,
         gains,
@@ -116,6 +138,8 @@ fn repair_in<'a>(
     wlists: &'a [u16],
     wranks: &'a [u16],
     matching: &[u8],
+    weights: &[usize],
+    carried: &[usize],
     request: &[u8],
     out: &mut [u8],
     gains: &mut [i8],
@@ -123,10 +147,13 @@ fn repair_in<'a>(
     ghost { Record }
     requires { λ R. ⌜ lent n mlists mranks wlists wranks ≡ R ⌝ }
     requires { λ R. ⌜ FromBook answer R ⌝ }
-    ensures { λ R r. ⌜ Repairs answer R (now₀ matching) (now₀ request) (now₀ out) (now₀ gains) r (now₁ out) (now₁ gains) ⌝ }
+    requires { λ _. ⌜ WeightsGiven (now matching) (now weights) (now carried) ⌝ }
+    ensures { λ R r. ⌜ Repairs answer R (now₀ matching) (now₀ weights) (now₀ request) (now₀ out) (now₀ gains) r
+        (now₁ out) (now₁ gains) ⌝ }
 {
     let judged = judge(answer, n, mlists, mranks, wlists, wranks, matching);
-    let checked = judged.checked;
+    let stable = judged.checked;
+    let checked = check_weights(stable, n, weights);
     let Checked::Fine = checked else {
         return refused(checked);
     };
@@ -144,7 +171,18 @@ fn repair_in<'a>(
     let places = judged.places;
     let men = places.men;
     let women = places.women;
-    let found = nearest(n, mlists, mranks, wlists, wranks, men, women, asking);
+    let found = nearest(
+        n,
+        mlists,
+        mranks,
+        wlists,
+        wranks,
+        men,
+        women,
+        weights,
+        carried,
+        asking,
+    );
     repair_answer::answer(n, mlists, men, found, out, gains)
 }
 

@@ -8,3 +8,5 @@ pub mod Demand3
 pub mod OneRepair
 pub mod GradeBytes
 pub mod GradeSentence
+pub mod SameWeights
+pub mod Even

@@ -1,5 +1,5 @@
--- The words of demand 3: b is a book, m and k are matchings of it, `womanOf m i` is the mentor of student i in m, s is
--- the asking student. A matching is stable where its check refuses nothing. Assumes nothing.
+-- The words of demand 3: b is a book, m and k are matchings of it, `womanOf m i` is the mentor of student i in m, c i is
+-- the weight of student i, and s is the asking student. A matching is stable where its check refuses nothing. Assumes nothing.
 use Prim.Native.Nat.{ℕ, _-_, _≤_, _<_}
 use mathlib.Core.Path.{_≡_}
 use mathlib.Core.List.{List}
@@ -8,14 +8,15 @@ use mathlib.Core.Logic.{_↔_}
 use lib.ListN.{length, take, getD}
 use lib.Dec.{eqb}
 use lib.IntN.{ℤ, pos, natAbs}
-use Rattle.laws.specs.Choice.{both}
-use Rattle.laws.specs.Sum.{count}
+use Rattle.laws.specs.Choice.{pick, both}
+use Rattle.laws.specs.Sum.{sum}
 use Rattle.laws.specs.Difference.{less}
 use Rattle.format.specs.Verdict.{fine}
 use Rattle.format.specs.Outcome.{Outcome, gives}
 use Rattle.format.specs.Format.{largest, people, pairRow}
 use Rattle.matchings.specs.Matching.{manRank, checkMatching, womanOf}
-use Rattle.repairs.specs.Repair.{movedCount, RepairAnswer, up, down, fixed, repairReply}
+use Rattle.repairs.specs.Weights.{movedWeight}
+use Rattle.repairs.specs.Repair.{RepairAnswer, up, down, fixed}
 
 -- The request for the pair of student s of m
 abbrev pub pairOf : List ℕ → ℕ → List ℕ
@@ -62,16 +63,16 @@ abbrev pub RepairDown : List ℕ → List ℕ → ℕ → List ℕ → Type 0
 RepairDown b m s r = Repaired NoBetter b m s r
 
 -- The repair that document 01 takes, with its reply: the nearer, at equal distance up; the distance reported is the
--- number of students moved
-pub data Takes (b m : List ℕ) (s : ℕ) (r : List ℕ) : Outcome RepairAnswer → Type 0 where
-  takes-up : RepairUp b m s r → ((d : List ℕ) → RepairDown b m s d → movedCount (people b) m r ≤ movedCount (people b) m d) →
-      Takes b m s r (gives (up (movedCount (people b) m r)))
-  takes-down : RepairDown b m s r → ((u : List ℕ) → RepairUp b m s u → movedCount (people b) m r < movedCount (people b) m u) →
-      Takes b m s r (gives (down (movedCount (people b) m r)))
+-- total weight of the students moved
+pub data Takes (b : List ℕ) (c : ℕ → ℕ) (m : List ℕ) (s : ℕ) (r : List ℕ) : Outcome RepairAnswer → Type 0 where
+  takes-up : RepairUp b m s r → ((d : List ℕ) → RepairDown b m s d → movedWeight (people b) c m r ≤ movedWeight (people b) c m d) →
+      Takes b c m s r (gives (up (movedWeight (people b) c m r)))
+  takes-down : RepairDown b m s r → ((u : List ℕ) → RepairUp b m s u → movedWeight (people b) c m r < movedWeight (people b) c m u) →
+      Takes b c m s r (gives (down (movedWeight (people b) c m r)))
 
--- no stable matching without the pair moves fewer than r
-abbrev pub Fewest : List ℕ → List ℕ → ℕ → List ℕ → Type 0
-Fewest b m s r = (k : List ℕ) → Without b m s k → movedCount (people b) m r ≤ movedCount (people b) m k
+-- every stable matching without the pair moves students that weigh at least as much as those whom r moves
+abbrev pub Lightest : List ℕ → (ℕ → ℕ) → List ℕ → ℕ → List ℕ → Type 0
+Lightest b c m s r = (k : List ℕ) → Without b m s k → movedWeight (people b) c m r ≤ movedWeight (people b) c m k
 
 -- The entries are the places gained by each student from m to r, old place less new: 0 exactly where he is unmoved, and
 -- at most one less than the largest n, up or down
@@ -80,28 +81,28 @@ pub record Gained (b m r : List ℕ) (gains : List ℤ) : Type 0 where
   pub zero : (i : ℕ) → i < people b → getD gains i (pos 0) ≡ pos 0 ↔ womanOf r i ≡ womanOf m i
   pub small : (i : ℕ) → i < people b → natAbs (getD gains i (pos 0)) ≤ largest - 1
 
--- How many students besides s the matching k moves
-abbrev pub movedBesides : ℕ → List ℕ → List ℕ → ℕ → ℕ
-movedBesides n m k s = count n (λ i. both (not (eqb i s)) (not (eqb (womanOf k i) (womanOf m i))))
+-- The total weight of the students besides s whom the matching k moves
+abbrev pub movedBesides : ℕ → (ℕ → ℕ) → List ℕ → List ℕ → ℕ → ℕ
+movedBesides n c m k s = sum n (λ i. pick (both (not (eqb i s)) (not (eqb (womanOf k i) (womanOf m i)))) (c i) 0)
 
--- For each pair of m that is not fixed some stable matching without it moves at most g students besides the asking one
-pub record Covers (b m : List ℕ) (g : ℕ) : Type 0 where
-  pub covers : (s : ℕ) → s < people b → (InEvery b m s → ⊥) → (k : List ℕ) × Without b m s k × (movedBesides (people b) m k s ≤ g)
+-- For each pair of m that is not fixed some stable matching without it moves students, besides the asking one, that
+-- weigh at most g
+pub record Covers (b : List ℕ) (c : ℕ → ℕ) (m : List ℕ) (g : ℕ) : Type 0 where
+  pub covers :
+      (s : ℕ) → s < people b → (InEvery b m s → ⊥) → (k : List ℕ) × Without b m s k × (movedBesides (people b) c m k s ≤ g)
 
--- The answer for the pair of student s is a: the reply to its request gives a, whatever the lent buffers hold, where
--- they are long enough
-abbrev pub AnswerIs : List ℕ → List ℕ → ℕ → RepairAnswer → Type 0
-AnswerIs b m s a =
-    (out : List ℕ) (gains : List ℤ) → people b ≤ length out → people b ≤ length gains →
-    repairReply b m (pairOf m s) out gains ≡ gives a
+-- A reply, which depends on the two lent buffers, gives the answer a, whatever they hold, where each has n entries
+abbrev pub AnswerIs : ℕ → (List ℕ → List ℤ → Outcome RepairAnswer) → RepairAnswer → Type 0
+AnswerIs n reply a = (out : List ℕ) (gains : List ℤ) → n ≤ length out → n ≤ length gains → reply out gains ≡ gives a
 
 -- That answer is a repair, up or down, with the distance d
-pub data ReportedDistance (b m : List ℕ) (s d : ℕ) : Type 0 where
-  reported-up : AnswerIs b m s (up d) → ReportedDistance b m s d
-  reported-down : AnswerIs b m s (down d) → ReportedDistance b m s d
+pub data ReportedDistance (n : ℕ) (reply : List ℕ → List ℤ → Outcome RepairAnswer) (d : ℕ) : Type 0 where
+  reported-up : AnswerIs n reply (up d) → ReportedDistance n reply d
+  reported-down : AnswerIs n reply (down d) → ReportedDistance n reply d
 
--- g is the largest distance of an answer, less 1, over the pairs that are not fixed. It is 0 if all are fixed
-pub data LargestLessOne (b m : List ℕ) (g : ℕ) : Type 0 where
-  largest-less-one : {s d : ℕ} → s < people b → ReportedDistance b m s d →
-      ((t e : ℕ) → t < people b → ReportedDistance b m t e → e ≤ d) → g ≡ d - 1 → LargestLessOne b m g
-  all-fixed : ((s : ℕ) → s < people b → AnswerIs b m s fixed) → g ≡ 0 → LargestLessOne b m g
+-- `replies s` is the reply for the pair of student s. g is the largest distance of an answer, less the asking student's
+-- own weight, over the pairs that are not fixed. It is 0 if all are fixed
+pub data LargestLessOwn (n : ℕ) (c : ℕ → ℕ) (replies : ℕ → List ℕ → List ℤ → Outcome RepairAnswer) (g : ℕ) : Type 0 where
+  largest-less-own : {s d : ℕ} → s < n → ReportedDistance n (replies s) d →
+      ((t e : ℕ) → t < n → ReportedDistance n (replies t) e → e - c t ≤ d - c s) → g ≡ d - c s → LargestLessOwn n c replies g
+  all-fixed : ((s : ℕ) → s < n → AnswerIs n (replies s) fixed) → g ≡ 0 → LargestLessOwn n c replies g

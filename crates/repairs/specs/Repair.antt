@@ -1,14 +1,12 @@
 -- Repair of a pair: the answer, the reply, and what the two result buffers hold afterwards. b is the book, m the given
--- matching, q the request. Assumes nothing.
+-- matching, q the request, c i the weight of student i; where students are counted it is 1. Assumes nothing.
 use Prim.Native.Nat.{ℕ}
 use mathlib.Core.List.{List, []}
-use mathlib.Core.Bool.{not}
 use lib.ListN.{length}
-use lib.Dec.{eqb}
 use lib.IntN.{ℤ}
-use Rattle.laws.specs.Sum.{count}
 use Rattle.laws.specs.Values.{values}
 use Rattle.laws.specs.Difference.{less}
+use Rattle.format.specs.Verdict.{Verdict}
 use Rattle.format.specs.Outcome.{Outcome, gives, refusal, after, filled}
 use Rattle.format.specs.Format.{people}
 use Rattle.stable_theory.specs.Repairs.Answer.{Answer, U, D, F, answerOf}
@@ -17,20 +15,16 @@ use Rattle.matchings.specs.Matching.{manRank, vectorOf, womanOf}
 use Rattle.matchings.specs.Extreme.{matchingOf}
 use Rattle.repairs.specs.declared.answer.Answer.{Answer as Given}
 use Rattle.repairs.specs.declared.answer.Answer.the-variants.{Up, Down, Fixed, Refused}
-use Rattle.repairs.specs.Request.{askingMan, checkRequest}
-
--- The distance of two matchings of n students: the number of students whose mentors differ
-abbrev pub movedCount : ℕ → List ℕ → List ℕ → ℕ
-movedCount n m k = count n (λ i. not (eqb (womanOf k i) (womanOf m i)))
+use Rattle.repairs.specs.Weights.{weightOf, movedWeight}
+use Rattle.repairs.specs.Request.{askingMan, checkRequest, checkWeightedRequest}
 
 -- Each student's places gained from m to r: the place of the old mentor on his list less that of the new one
 abbrev pub gainsOf : List ℕ → List ℕ → List ℕ → List ℤ
 gainsOf b m r = values (λ i. less (manRank b i (womanOf m i)) (manRank b i (womanOf r i))) 0 (people b)
 
--- The answer for the pair of student s: repair up or repair down, the nearer, up at equal distance; or fixed. Every
--- student counts 1
-abbrev pub answerFor : List ℕ → List ℕ → ℕ → Answer
-answerFor b m s = answerOf (market b) (λ i. 1) (vectorOf b m) s
+-- The answer for the pair of student s: repair up or repair down, the nearer, up at equal distance; or fixed
+abbrev pub answerFor : List ℕ → (ℕ → ℕ) → List ℕ → ℕ → Answer
+answerFor b c m s = answerOf (market b) c (vectorOf b m) s
 
 -- The answer as document 01 gives it: up or down with the distance, or fixed
 pub data RepairAnswer : Type 0 where
@@ -38,11 +32,11 @@ pub data RepairAnswer : Type 0 where
   down : ℕ → RepairAnswer
   fixed : RepairAnswer
 
--- An answer with the distance of its matching
-abbrev pub withDistance : List ℕ → List ℕ → Answer → RepairAnswer
-withDistance b m (U v) = up (movedCount (people b) m (matchingOf b v))
-withDistance b m (D v) = down (movedCount (people b) m (matchingOf b v))
-withDistance b m F = fixed
+-- An answer with its distance: the total weight of the students whom its matching moves
+abbrev pub withDistance : List ℕ → (ℕ → ℕ) → List ℕ → Answer → RepairAnswer
+withDistance b c m (U v) = up (movedWeight (people b) c m (matchingOf b v))
+withDistance b c m (D v) = down (movedWeight (people b) c m (matchingOf b v))
+withDistance b c m F = fixed
 
 -- How many entries an answer writes to each buffer: n, and none where the pair is fixed
 abbrev pub entriesFor : List ℕ → Answer → ℕ
@@ -69,17 +63,35 @@ repairOutcome (Down r) = gives (down (r .distance))
 repairOutcome Fixed = gives fixed
 repairOutcome (Refused r) = refusal (r .number) (r .place) (r .second)
 
--- The reply to a request, and the two buffers afterwards
+-- The reply to a request after its check, and the two buffers afterwards
+abbrev pub replyAfter : Verdict → (ℕ → ℕ) → List ℕ → List ℕ → List ℕ → Outcome RepairAnswer
+replyAfter v c b m q = after v (withDistance b c m (answerFor b c m (askingMan q)))
+
+abbrev pub matchingAfter : Verdict → (ℕ → ℕ) → List ℕ → List ℕ → List ℕ → List ℕ → List ℕ
+matchingAfter v c b m q out = let a = answerFor b c m (askingMan q) in filled v (entriesFor b a) (matchingFor b a) out
+
+abbrev pub gainsAfter : Verdict → (ℕ → ℕ) → List ℕ → List ℕ → List ℕ → List ℤ → List ℤ
+gainsAfter v c b m q gains = let a = answerFor b c m (askingMan q) in filled v (entriesFor b a) (gainsFor b m a) gains
+
+-- where every student counts 1
 abbrev pub repairReply : List ℕ → List ℕ → List ℕ → List ℕ → List ℤ → Outcome RepairAnswer
-repairReply b m q out gains =
-    after (checkRequest b m q (length out) (length gains)) (withDistance b m (answerFor b m (askingMan q)))
+repairReply b m q out gains = replyAfter (checkRequest b m q (length out) (length gains)) (λ i. 1) b m q
 
 abbrev pub repairMatching : List ℕ → List ℕ → List ℕ → List ℕ → List ℤ → List ℕ
-repairMatching b m q out gains =
-    let a = answerFor b m (askingMan q) in
-    filled (checkRequest b m q (length out) (length gains)) (entriesFor b a) (matchingFor b a) out
+repairMatching b m q out gains = matchingAfter (checkRequest b m q (length out) (length gains)) (λ i. 1) b m q out
 
 abbrev pub repairGains : List ℕ → List ℕ → List ℕ → List ℕ → List ℤ → List ℤ
-repairGains b m q out gains =
-    let a = answerFor b m (askingMan q) in
-    filled (checkRequest b m q (length out) (length gains)) (entriesFor b a) (gainsFor b m a) gains
+repairGains b m q out gains = gainsAfter (checkRequest b m q (length out) (length gains)) (λ i. 1) b m q gains
+
+-- and where the weights k are given
+abbrev pub weightedReply : List ℕ → List ℕ → List ℕ → List ℕ → List ℕ → List ℤ → Outcome RepairAnswer
+weightedReply b m k q out gains =
+    replyAfter (checkWeightedRequest b m k q (length out) (length gains)) (weightOf k) b m q
+
+abbrev pub weightedMatching : List ℕ → List ℕ → List ℕ → List ℕ → List ℕ → List ℤ → List ℕ
+weightedMatching b m k q out gains =
+    matchingAfter (checkWeightedRequest b m k q (length out) (length gains)) (weightOf k) b m q out
+
+abbrev pub weightedGains : List ℕ → List ℕ → List ℕ → List ℕ → List ℕ → List ℤ → List ℤ
+weightedGains b m k q out gains =
+    gainsAfter (checkWeightedRequest b m k q (length out) (length gains)) (weightOf k) b m q gains

@@ -1,5 +1,6 @@
 -- The check of a request for a repair: rules 8 to 10 on the matching, then 13, 11, 12 on the request, then 14 on the
--- two result buffers. A request is a row of two entries, student then mentor. Assumes nothing.
+-- two result buffers; with weights 17 after 10. A request is a row of two entries, student then mentor. Assumes
+-- nothing.
 use Prim.Native.Nat.{ℕ}
 use mathlib.Core.List.{List}
 use mathlib.Core.Bool.{not}
@@ -9,6 +10,7 @@ use Rattle.laws.specs.Choice.{either}
 use Rattle.format.specs.Verdict.{Verdict, fine, rule, andThen}
 use Rattle.format.specs.Format.{people, entryIn}
 use Rattle.matchings.specs.Matching.{checkMatching, womanOf}
+use Rattle.repairs.specs.Weights.{checkWeighed}
 
 -- The student and the mentor of a request
 abbrev pub askingMan : List ℕ → ℕ
@@ -33,3 +35,7 @@ checkAsked n m q room gainsRoom =
 -- The verdict on a request
 abbrev pub checkRequest : List ℕ → List ℕ → List ℕ → ℕ → ℕ → Verdict
 checkRequest b m q room gainsRoom = andThen (checkMatching b m) (checkAsked (people b) m q room gainsRoom)
+
+-- The same where weights k are given: 17 is tried before 13
+abbrev pub checkWeightedRequest : List ℕ → List ℕ → List ℕ → List ℕ → ℕ → ℕ → Verdict
+checkWeightedRequest b m k q room gainsRoom = andThen (checkWeighed b m k) (checkAsked (people b) m q room gainsRoom)

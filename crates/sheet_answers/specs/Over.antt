@@ -14,17 +14,17 @@ use Rattle.nearest.specs.Nearest.{farOf, costs}
 use Rattle.sheets.specs.Line.{topLine, pairLines}
 use Rattle.sheets.specs.Sheet.{letterOf}
 
--- The letter and the distance of the answer for s, over a market and a place vector
-abbrev pub letterIn : Market → (ℕ → ℕ) → ℕ → ℕ
-letterIn I p s = letterOf (answerOf I (λ i. 1) p s)
+-- The letter and the distance of the answer for s, over a market and a place vector, c i being the weight of man i
+abbrev pub letterIn : Market → (ℕ → ℕ) → (ℕ → ℕ) → ℕ → ℕ
+letterIn I c p s = letterOf (answerOf I c p s)
 
-abbrev pub distanceIn : Market → (ℕ → ℕ) → ℕ → ℕ
-distanceIn I p s = farOf I p (answerOf I (λ i. 1) p s)
+abbrev pub distanceIn : Market → (ℕ → ℕ) → (ℕ → ℕ) → ℕ → ℕ
+distanceIn I c p s = farOf I c p (answerOf I c p s)
 
 -- The sheet of the matching m of n men over a market and its place vector
-unfoldable pub sheetIn : Market → (ℕ → ℕ) → ℕ → List ℕ → List ℕ
-sheetIn I p n m = topLine n (total I) (maximum n (costs I p)) ++ pairLines (womanOf m) (letterIn I p) (distanceIn I p) n
+unfoldable pub sheetIn : Market → (ℕ → ℕ) → (ℕ → ℕ) → ℕ → List ℕ → List ℕ
+sheetIn I c p n m = topLine n (total I) (maximum n (costs I c p)) ++ pairLines (womanOf m) (letterIn I c p) (distanceIn I c p) n
 
 -- over what the check leaves
-abbrev pub sheetOver : Record → Places → List ℕ → List ℕ
-sheetOver R p m = sheetIn (marketIn R) (vec (p .men)) (R .n) m
+abbrev pub sheetOver : Record → (ℕ → ℕ) → Places → List ℕ → List ℕ
+sheetOver R c p m = sheetIn (marketIn R) c (vec (p .men)) (R .n) m

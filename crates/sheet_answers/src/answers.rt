@@ -7,10 +7,11 @@ use sheet_text::put_top;
 ghost use mathlib.Core.Path.{_≡_};
 ghost use Prim.Native.Nat.{_≤_};
 ghost use lib.ListN.{length};
-ghost use Rattle.laws.specs.Moment.{now₀, now₁};
+ghost use Rattle.laws.specs.Moment.{now₀, now₁, vec₀};
+ghost use Rattle.laws.specs.Values.{vec};
 ghost use Rattle.format.specs.Record.{Record, lent};
 ghost use Rattle.instances.specs.Usable.{Usable};
-ghost use Rattle.nearest.specs.Nearest.{GivenIn};
+ghost use Rattle.nearest.specs.Nearest.{GivenIn, BothWeighed};
 ghost use Rattle.sheet_text.specs.Put.{Put};
 ghost use Rattle.sheet_answers.specs.Over.{sheetOver};
 
@@ -22,14 +23,16 @@ pub fn put_answers<'a>(
     wlists: &'a [u16],
     wranks: &'a [u16],
     places: Places,
+    weights: &[usize],
+    carried: &[usize],
     matching: &[u8],
     text: &mut [u8],
 ) -> usize
     ghost { Record }
     requires { λ R. ⌜ lent n mlists mranks wlists wranks ≡ R ⌝ }
-    requires { λ R. ⌜ Usable R × GivenIn R places ⌝ }
-    requires { λ R. ⌜ (n ≤ length (now matching)) × (length (sheetOver R places (now matching)) ≤ length (now text)) ⌝ }
-    ensures { λ R r. ⌜ Put (now₀ text) 0 (sheetOver R places (now₀ matching)) (now₁ text) r ⌝ }
+    requires { λ R. ⌜ Usable R × GivenIn R places × BothWeighed R (vec (places .men)) (now weights) (now carried) ⌝ }
+    requires { λ R. ⌜ (n ≤ length (now matching)) × (length (sheetOver R (vec (now weights)) places (now matching)) ≤ length (now text)) ⌝ }
+    ensures { λ R r. ⌜ Put (now₀ text) 0 (sheetOver R (vec₀ weights) places (now₀ matching)) (now₁ text) r ⌝ }
 {
     let mut letters = [0u8; Instance::LARGEST];
     let mut distances = [0usize; Instance::LARGEST];
@@ -40,6 +43,8 @@ pub fn put_answers<'a>(
         wlists,
         wranks,
         places,
+        weights,
+        carried,
         &mut letters[..],
         &mut distances[..],
     );

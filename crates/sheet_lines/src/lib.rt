@@ -1,4 +1,6 @@
-// The sheet of a book and a matching. `write_sheet` takes bytes and has no `requires`.
+// The sheet of a book and a matching, plain and with weights. The calls take bytes and have no `requires`.
+mod calls;
 mod sheet;
 
-pub use sheet::write_sheet;
+pub use calls::write_sheet;
+pub use calls::write_weighted_sheet;

@@ -1,51 +1,34 @@
-// The sheet of what was read, a book and a matching.
-use book::book_end;
-use book::count_after;
+// The sheet of a book, a matching and weights.
+//
+// `weights` has the weight of each man, and `carried` that of each woman's man.
 use book::is_small;
-use book::refuse;
 use format::Checked;
-use format::Counted;
 use format::Instance;
 use record::load;
 use sheet_answers::put_answers;
 use sheet_text::put_refused;
-use sheets::LONGEST;
 use stability::judge;
+use weights::check_weights;
 ghost use mathlib.Core.Path.{_≡_};
-ghost use Prim.Native.Nat.{_≤_};
-ghost use lib.ListN.{length};
 ghost use Rattle.laws.specs.Moment.{now₀, now₁};
-ghost use Rattle.format.specs.Outcome.{countOutcome};
 ghost use Rattle.format.specs.Record.{Record, lent, LongTables};
 ghost use Rattle.stability.specs.Judge.{FromBook, EachBook};
-ghost use Rattle.sheets.specs.Longest.{longest};
-ghost use Rattle.sheets.specs.Sheet.{sheetFor, sheetOf};
-ghost use Rattle.sheets.specs.Reply.{sheetReply, sheetBuffer};
+ghost use Rattle.sheets.specs.Sheet.{weightedSheetFor};
 ghost use Rattle.sheet_text.specs.Put.{Put};
-
-// Writes the sheet to the front of `out` and says how many bytes it has, or refuses by 14 where `out` is too short.
-// A refusal leaves `out` as it was, and a success leaves what is past the sheet.
-pub fn write_sheet(input: &[u8], out: &mut [u8]) -> Counted
-    ensures reply { λ r. ⌜ countOutcome r ≡ sheetReply (now₀ input) (length (now₀ out)) ⌝ }
-    ensures bytes { λ _. ⌜ now₁ out ≡ sheetBuffer (now₀ input) (now₀ out) ⌝ }
-{
-    let mut text = [0u8; LONGEST];
-    let len = put_sheet(input, &mut text[..]);
-    if out.len() < len {
-        return count_after(refuse(14, 0), 0);
-    }
-    bytes::copy(&text[..len], out);
-    Counted::Count(len)
-}
+ghost use Rattle.weights.specs.Weights.{WeightsGiven};
+ghost use Rattle.sheet_lines.specs.Room.{Room};
 
 // Puts the sheet at the front of `text`.
-fn put_sheet(input: &[u8], text: &mut [u8]) -> usize
-    requires { ⌜ longest ≤ length (now text) ⌝ }
-    ensures { λ r. ⌜ Put (now₀ text) 0 (sheetOf (now₀ input)) (now₁ text) r ⌝ }
+pub(crate) fn put_sheet(
+    book: &[u8],
+    matching: &[u8],
+    weights: &[usize],
+    carried: &[usize],
+    text: &mut [u8],
+) -> usize
+    requires { ⌜ WeightsGiven (now matching) (now weights) (now carried) × Room (now weights) (now text) ⌝ }
+    ensures { λ r. ⌜ Put (now₀ text) 0 (weightedSheetFor (now₀ book) (now₀ matching) (now₀ weights)) (now₁ text) r ⌝ }
 {
-    let end = book_end(input);
-    let book = &input[..end];
-    let matching = &input[end..];
     if is_small(book) {
         let mut mlists = [Instance::VACANT; Instance::SMALL_LISTS];
         let mut mranks = [Instance::VACANT; Instance::SMALL_RANKS];
@@ -58,6 +41,8 @@ fn put_sheet(input: &[u8], text: &mut [u8]) -> usize
             &mut wlists,
             &mut wranks,
             matching,
+            weights,
+            carried,
             text,
         );
     }
@@ -72,6 +57,8 @@ fn put_sheet(input: &[u8], text: &mut [u8]) -> usize
         &mut wlists,
         &mut wranks,
         matching,
+        weights,
+        carried,
         text,
     )
 }
@@ -84,21 +71,34 @@ fn put_with(
     wlists: &mut [u16],
     wranks: &mut [u16],
     matching: &[u8],
+    weights: &[usize],
+    carried: &[usize],
     text: &mut [u8],
 ) -> usize
     requires { ⌜ LongTables (now book) (now mlists) (now mranks) ⌝ }
     requires { ⌜ LongTables (now book) (now wlists) (now wranks) ⌝ }
-    requires { ⌜ longest ≤ length (now text) ⌝ }
-    ensures { λ r. ⌜ Put (now₀ text) 0 (sheetFor (now₀ book) (now₀ matching)) (now₁ text) r ⌝ }
+    requires { ⌜ WeightsGiven (now matching) (now weights) (now carried) × Room (now weights) (now text) ⌝ }
+    ensures { λ r. ⌜ Put (now₀ text) 0 (weightedSheetFor (now₀ book) (now₀ matching) (now₀ weights)) (now₁ text) r ⌝ }
 {
     let instance = load(book, mlists, mranks, wlists, wranks);
     let answer = instance.checked;
     let n = instance.n;
-    put_judged(answer, n, mlists, mranks, wlists, wranks, matching, text)
+    put_judged(
+        answer,
+        n,
+        mlists,
+        mranks,
+        wlists,
+        wranks,
+        matching,
+        weights,
+        carried,
+        text,
+    )
 }
 
 // The same from what is made of the book: for each book of which that is made. It goes on to repairs only where the
-// check answered stable.
+// check refused nothing.
 fn put_judged<'a>(
     answer: Checked,
     n: usize,
@@ -107,18 +107,33 @@ fn put_judged<'a>(
     wlists: &'a [u16],
     wranks: &'a [u16],
     matching: &[u8],
+    weights: &[usize],
+    carried: &[usize],
     text: &mut [u8],
 ) -> usize
     ghost { Record }
     requires { λ R. ⌜ lent n mlists mranks wlists wranks ≡ R ⌝ }
-    requires { λ R. ⌜ FromBook answer R × (longest ≤ length (now text)) ⌝ }
-    ensures { λ R r. ⌜ EachBook answer R (λ b. Put (now₀ text) 0 (sheetFor b (now₀ matching)) (now₁ text) r) ⌝ }
+    requires { λ R. ⌜ FromBook answer R ⌝ }
+    requires { λ _. ⌜ WeightsGiven (now matching) (now weights) (now carried) × Room (now weights) (now text) ⌝ }
+    ensures { λ R r. ⌜ EachBook answer R (λ b. Put (now₀ text) 0 (weightedSheetFor b (now₀ matching) (now₀ weights)) (now₁ text) r) ⌝ }
 {
     let judged = judge(answer, n, mlists, mranks, wlists, wranks, matching);
-    let checked = judged.checked;
+    let stable = judged.checked;
+    let checked = check_weights(stable, n, weights);
     let Checked::Fine = checked else {
         return put_refused(text, checked);
     };
     let places = judged.places;
-    put_answers(n, mlists, mranks, wlists, wranks, places, matching, text)
+    put_answers(
+        n,
+        mlists,
+        mranks,
+        wlists,
+        wranks,
+        places,
+        weights,
+        carried,
+        matching,
+        text,
+    )
 }

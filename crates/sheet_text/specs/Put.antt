@@ -7,9 +7,9 @@ use Rattle.laws.specs.Overwrite.{overwritten}
 use Rattle.laws.specs.Values.{vec}
 use Rattle.format.specs.Format.{largest}
 
--- A number of at most four digits, as every number of a sheet is
-abbrev pub FourDigits : ℕ → Type 0
-FourDigits x = x < 10000
+-- A number of at most five digits, as every number of a sheet is
+abbrev pub FiveDigits : ℕ → Type 0
+FiveDigits x = x < 100000
 
 -- What the lines of n pairs are made of: so many entries, letters and distances, few pairs, and short distances
 pub record PairsGiven (n : ℕ) (matching letters distances : List ℕ) : Type 0 where
@@ -17,7 +17,7 @@ pub record PairsGiven (n : ℕ) (matching letters distances : List ℕ) : Type 0
   pub letters-long : n ≤ length letters
   pub distances-long : n ≤ length distances
   pub few : n ≤ largest
-  pub distances-short : {s : ℕ} → s < n → FourDigits (vec distances s)
+  pub distances-short : {s : ℕ} → s < n → FiveDigits (vec distances s)
 
 -- The buffer l has become m: the bytes vs stand in it from index i on, all else is as it was, and j is the index past
 -- them

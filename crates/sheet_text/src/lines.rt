@@ -14,12 +14,12 @@ ghost use Rattle.laws.specs.Values.{vec};
 ghost use Rattle.format.specs.Verdict.{verdictOf};
 ghost use Rattle.format.specs.Format.{entryIn};
 ghost use Rattle.sheets.specs.Line.{topLine, pairLine, pairLines, refusalLine, refusedLine};
-ghost use Rattle.sheet_text.specs.Put.{Put, FourDigits, PairsGiven};
+ghost use Rattle.sheet_text.specs.Put.{Put, FiveDigits, PairsGiven};
 
 // Line one: n, the number of rotations, the grade.
 pub fn put_top(out: &mut [u8], at: usize, n: usize, rotations: usize, grade: usize) -> usize
     requires { ⌜ (at + length (topLine n rotations grade) ≤ length (now out)) ×
-        FourDigits n × FourDigits rotations × FourDigits grade ⌝ }
+        FiveDigits n × FiveDigits rotations × FiveDigits grade ⌝ }
     ensures { λ r. ⌜ Put (now₀ out) at (topLine n rotations grade) (now₁ out) r ⌝ }
 {
     let second = put_field(out, at, n, b' ');
@@ -29,7 +29,7 @@ pub fn put_top(out: &mut [u8], at: usize, n: usize, rotations: usize, grade: usi
 
 // The line of a pair: man, woman, letter, distance.
 fn put_pair(out: &mut [u8], at: usize, man: Man, woman: Woman, letter: u8, distance: usize) -> usize
-    requires { ⌜ (at + length (pairLine (man .0) (woman .0) letter distance) ≤ length (now out)) × FourDigits distance ⌝ }
+    requires { ⌜ (at + length (pairLine (man .0) (woman .0) letter distance) ≤ length (now out)) × FiveDigits distance ⌝ }
     ensures { λ r. ⌜ Put (now₀ out) at (pairLine (man .0) (woman .0) letter distance) (now₁ out) r ⌝ }
 {
     let m = wide(man.0);
@@ -69,7 +69,7 @@ pub fn put_pairs(
 
 // The line of a refusal, at the front.
 fn put_refusal(out: &mut [u8], number: usize) -> usize
-    requires { ⌜ (length (refusalLine number) ≤ length (now out)) × FourDigits number ⌝ }
+    requires { ⌜ (length (refusalLine number) ≤ length (now out)) × FiveDigits number ⌝ }
     ensures { λ r. ⌜ Put (now₀ out) 0 (refusalLine number) (now₁ out) r ⌝ }
 {
     let second = bytes::copy(b"refused ", out);

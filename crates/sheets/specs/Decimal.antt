@@ -19,6 +19,6 @@ unfoldable pub decimal : ℕ → List ℕ
 decimal x = decimalIn (suc x) x
 
 -- Examples, computed
-pub decimal-examples : decimal 0 ++ (decimal 64 ++ decimal 2016) ≡ 48 ∷ 54 ∷ 52 ∷ 50 ∷ 48 ∷ 49 ∷ 54 ∷ []
+pub decimal-examples : decimal 0 ++ (decimal 64 ++ (decimal 2016 ++ decimal 16320)) ≡ 48 ∷ 54 ∷ 52 ∷ 50 ∷ 48 ∷ 49 ∷ 54 ∷ 49 ∷ 54 ∷ 51 ∷ 50 ∷ 48 ∷ []
 unfolding decimal decimalIn
 decimal-examples = refl

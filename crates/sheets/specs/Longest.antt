@@ -5,22 +5,36 @@ use lib.Dec.{ltb}
 use Rattle.laws.specs.Choice.{pick}
 use Rattle.format.specs.Format.{largest}
 
--- How many digits the largest n has, which is below 1,000
+-- How many digits the number x has, which is below 100,000
+abbrev pub digitsOf : ℕ → ℕ
+digitsOf x = pick (ltb x 10) 1 (pick (ltb x 100) 2 (pick (ltb x 1000) 3 (pick (ltb x 10000) 4 5)))
+
+-- The digits of the largest n, and of the largest total weight: 255 for each student
 abbrev pub digits : ℕ
-digits = pick (ltb largest 10) 1 (pick (ltb largest 100) 2 3)
+digits = digitsOf largest
 
--- Line one: three numbers, of which that of the rotations has at most twice the digits, and a byte after each
-abbrev pub topMost : ℕ
-topMost = 4 * digits + 3
+abbrev pub totalDigits : ℕ
+totalDigits = digitsOf (largest * 255)
 
--- The line of a pair: three numbers and a letter, and a byte after each
-abbrev pub pairMost : ℕ
-pairMost = 3 * digits + 5
+-- Line one: three numbers, of which that of the rotations has at most twice the digits of n and the grade at most e, and
+-- a byte after each
+abbrev pub topMost : ℕ → ℕ
+topMost e = 3 * digits + e + 3
 
--- How many bytes a sheet can have
+-- The line of a pair: two numbers, a letter and a distance of at most e digits, and a byte after each
+abbrev pub pairMost : ℕ → ℕ
+pairMost e = 2 * digits + e + 5
+
+-- How many bytes a sheet can have, and a weighted sheet
 abbrev pub longest : ℕ
-longest = topMost + pairMost * largest
+longest = topMost digits + pairMost digits * largest
+
+abbrev pub weightedLongest : ℕ
+weightedLongest = topMost totalDigits + pairMost totalDigits * largest
 
 -- in numbers
 pub longest-in-numbers : longest ≡ 715
 longest-in-numbers = refl
+
+pub weighted-longest-in-numbers : weightedLongest ≡ 910
+weighted-longest-in-numbers = refl

@@ -1,19 +1,33 @@
--- The reply of the function that writes a sheet, and what its buffer holds afterwards. Assumes nothing.
+-- The reply of the functions that write a sheet, and what the buffer holds afterwards. Assumes nothing.
 use Prim.Native.Nat.{ℕ}
 use mathlib.Core.List.{List}
 use lib.ListN.{length}
 use Rattle.format.specs.Verdict.{Verdict}
 use Rattle.format.specs.Outcome.{Outcome, after, checkRoom, filled}
-use Rattle.sheets.specs.Sheet.{sheetOf}
+use Rattle.sheets.specs.Sheet.{sheetOf, weightedSheetOf}
 
--- The verdict on a buffer of so many bytes: 14. A refusal of the book or the matching is no refusal here: its line is
--- the sheet
+-- The verdict on a buffer of so many bytes for a sheet: 14. A refusal of the book, the matching or the weights is no
+-- refusal here: its line is the sheet
 abbrev pub checkSheet : List ℕ → ℕ → Verdict
-checkSheet input room = checkRoom (length (sheetOf input)) room
+checkSheet sheet room = checkRoom (length sheet) room
 
--- The reply for what was read, how many bytes the sheet has, and the buffer afterwards
+-- The reply for a sheet, how many bytes it has, and the buffer afterwards
+abbrev pub replyWith : List ℕ → ℕ → Outcome ℕ
+replyWith sheet room = after (checkSheet sheet room) (length sheet)
+
+abbrev pub bufferWith : List ℕ → List ℕ → List ℕ
+bufferWith sheet out = filled (checkSheet sheet (length out)) (length sheet) sheet out
+
+-- for what was read
 abbrev pub sheetReply : List ℕ → ℕ → Outcome ℕ
-sheetReply input room = after (checkSheet input room) (length (sheetOf input))
+sheetReply input room = replyWith (sheetOf input) room
 
 abbrev pub sheetBuffer : List ℕ → List ℕ → List ℕ
-sheetBuffer input out = filled (checkSheet input (length out)) (length (sheetOf input)) (sheetOf input) out
+sheetBuffer input out = bufferWith (sheetOf input) out
+
+-- and with weights
+abbrev pub weightedSheetReply : List ℕ → ℕ → Outcome ℕ
+weightedSheetReply input room = replyWith (weightedSheetOf input) room
+
+abbrev pub weightedSheetBuffer : List ℕ → List ℕ → List ℕ
+weightedSheetBuffer input out = bufferWith (weightedSheetOf input) out

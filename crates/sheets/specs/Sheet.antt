@@ -8,7 +8,8 @@ use Rattle.stable_theory.specs.Repairs.Answer.{Answer, U, D, F}
 use Rattle.matchings.specs.Matching.{checkMatching, womanOf}
 use Rattle.matchings.specs.Extreme.{matchingOf}
 use Rattle.rotations.specs.RotationList.{rotationCount}
-use Rattle.repairs.specs.Repair.{answerFor, movedCount}
+use Rattle.repairs.specs.Weights.{weightOf, checkWeighed, movedWeight}
+use Rattle.repairs.specs.Repair.{answerFor}
 use Rattle.repairs.specs.Grade.{gradeOf}
 use Rattle.sheets.specs.Line.{topLine, pairLines, refusalLine}
 
@@ -20,33 +21,48 @@ bookPart input = take (size (people input)) input
 abbrev pub matchingPart : List ℕ → List ℕ
 matchingPart input = drop (size (people input)) input
 
+-- In a weighted sheet the first n of these are the matching, and all that follow are weights
+abbrev pub weighedPart : List ℕ → List ℕ
+weighedPart input = take (people input) (matchingPart input)
+
+abbrev pub weightsPart : List ℕ → List ℕ
+weightsPart input = drop (people input) (matchingPart input)
+
 -- The letter of an answer: U up, D down, F fixed
 abbrev pub letterOf : Answer → ℕ
 letterOf (U v) = 85
 letterOf (D v) = 68
 letterOf F = 70
 
--- The distance of an answer for the matching m of the book b, 0 for F
-abbrev pub distanceOf : List ℕ → List ℕ → Answer → ℕ
-distanceOf b m (U v) = movedCount (people b) m (matchingOf b v)
-distanceOf b m (D v) = movedCount (people b) m (matchingOf b v)
-distanceOf b m F = 0
+-- The distance of an answer for the matching m of the book b, 0 for F: the total weight of the students moved, c i being
+-- that of student i
+abbrev pub distanceOf : List ℕ → (ℕ → ℕ) → List ℕ → Answer → ℕ
+distanceOf b c m (U v) = movedWeight (people b) c m (matchingOf b v)
+distanceOf b c m (D v) = movedWeight (people b) c m (matchingOf b v)
+distanceOf b c m F = 0
 
 -- The sheet of a book and a stable matching: line one, then the line of each student
-unfoldable pub answers : List ℕ → List ℕ → List ℕ
-answers b m =
-    topLine (people b) (rotationCount b) (gradeOf b m)
-    ++ pairLines (womanOf m) (λ s. letterOf (answerFor b m s)) (λ s. distanceOf b m (answerFor b m s)) (people b)
+unfoldable pub answers : List ℕ → (ℕ → ℕ) → List ℕ → List ℕ
+answers b c m =
+    topLine (people b) (rotationCount b) (gradeOf b c m)
+    ++ pairLines (womanOf m) (λ s. letterOf (answerFor b c m s)) (λ s. distanceOf b c m (answerFor b c m s)) (people b)
 
--- It goes on to repairs only where the check answered stable; otherwise it is the line of the refusal
-abbrev pub sheetAfter : Verdict → List ℕ → List ℕ → List ℕ
-sheetAfter fine b m = answers b m
-sheetAfter (refused number place second) b m = refusalLine number
+-- It goes on to repairs only where the check refused nothing; otherwise it is the line of the refusal
+abbrev pub sheetAfter : Verdict → List ℕ → (ℕ → ℕ) → List ℕ → List ℕ
+sheetAfter fine b c m = answers b c m
+sheetAfter (refused number place second) b c m = refusalLine number
 
--- The sheet of a book and a matching
+-- The sheet of a book and a matching, where every student counts 1
 abbrev pub sheetFor : List ℕ → List ℕ → List ℕ
-sheetFor b m = sheetAfter (checkMatching b m) b m
+sheetFor b m = sheetAfter (checkMatching b m) b (λ i. 1) m
 
--- The sheet of what was read
+-- and where the weights k are given
+abbrev pub weightedSheetFor : List ℕ → List ℕ → List ℕ → List ℕ
+weightedSheetFor b m k = sheetAfter (checkWeighed b m k) b (weightOf k) m
+
+-- The sheet of what was read, and the weighted sheet
 unfoldable pub sheetOf : List ℕ → List ℕ
 sheetOf input = sheetFor (bookPart input) (matchingPart input)
+
+unfoldable pub weightedSheetOf : List ℕ → List ℕ
+weightedSheetOf input = weightedSheetFor (bookPart input) (weighedPart input) (weightsPart input)

@@ -5,7 +5,8 @@ use mathlib.Core.Path.{_≡_}
 use mathlib.Core.List.{List, [], _++_}
 use mathlib.Core.Logic.{_↔_}
 use lib.ListN.{take}
-use Rattle.format.specs.Verdict.{fine, refused}
+use Rattle.format.specs.Verdict.{Verdict, fine, refused}
+use Rattle.format.specs.Laws.Verdict.{all-fine}
 use Rattle.format.specs.Outcome.{gives, filled}
 use Rattle.format.specs.Format.{people}
 use Rattle.stable_theory.specs.Repairs.Answer.{Answer, U, D, F}
@@ -18,14 +19,15 @@ use Rattle.matchings.specs.Matching.{checkMatching, StableIn, womanOf}
 use Rattle.matchings.specs.Laws.StableCheck.{fine-stable}
 use Rattle.matchings.specs.Laws.StableVector.{vector-stable}
 use Rattle.rotations.specs.RotationList.{rotationCount}
+use Rattle.repairs.specs.Weights.{weightOf, checkWeighed}
 use Rattle.repairs.specs.Repair.{RepairAnswer, up, down, fixed, answerFor, withDistance, entriesFor, matchingFor}
 use Rattle.repairs.specs.Grade.{gradeOf}
-use Rattle.repairs.specs.Promise.{InEvery, Takes, Fewest, Covers}
+use Rattle.repairs.specs.Promise.{InEvery, Takes, Lightest, Covers}
 use Rattle.repairs.specs.Laws.RepairBytes.{holds}
 use Rattle.repairs.specs.Laws.AnswerBytes.{reply-fixed, reply-takes}
 use Rattle.repairs.specs.Laws.GradeBytes.{grade-covers, grade-least}
 use Rattle.sheets.specs.Line.{topLine, pairLines, refusalLine}
-use Rattle.sheets.specs.Sheet.{bookPart, matchingPart, letterOf, distanceOf, answers, sheetOf}
+use Rattle.sheets.specs.Sheet.{bookPart, matchingPart, weighedPart, weightsPart, letterOf, distanceOf, answers, sheetAfter, sheetOf, weightedSheetOf}
 
 -- A letter and a distance say an answer: U or D with the distance of the repair, F with 0
 pub data Says : ℕ → ℕ → RepairAnswer → Type 0 where
@@ -33,17 +35,17 @@ pub data Says : ℕ → ℕ → RepairAnswer → Type 0 where
   says-down : (d : ℕ) → Says 68 d (down d)
   says-fixed : Says 70 0 fixed
 
--- The letter and the distance of a line of the matching m of the book b, for the pair of student s: they say 'fixed'
--- exactly where every stable matching holds the pair, and otherwise the repair that document 01 takes, and no stable
--- matching without the pair moves fewer students
-pub record RightLine (b m : List ℕ) (s letter distance : ℕ) : Type 0 where
+-- The letter and the distance of a line of the matching m of the book b, for the pair of student s, c i being the weight
+-- of student i: they say 'fixed' exactly where every stable matching holds the pair, and otherwise the repair that
+-- document 01 takes, and every stable matching without the pair moves students that weigh at least as much
+pub record RightLine (b : List ℕ) (c : ℕ → ℕ) (m : List ℕ) (s letter distance : ℕ) : Type 0 where
   pub answer : RepairAnswer
   pub says : Says letter distance answer
   pub fixed-exactly : answer ≡ fixed ↔ InEvery b m s
-  pub taken : (InEvery b m s → ⊥) → (r : List ℕ) × Takes b m s r (gives answer) × Fewest b m s r
+  pub taken : (InEvery b m s → ⊥) → (r : List ℕ) × Takes b c m s r (gives answer) × Lightest b c m s r
 
 -- A sheet of n students with the number of rotations, the grade, and a letter and a distance for each
-pub record RightSheet (b m : List ℕ) (sheet : List ℕ) : Type 0 where
+pub record RightSheet (b : List ℕ) (c : ℕ → ℕ) (m : List ℕ) (sheet : List ℕ) : Type 0 where
   pub grade : ℕ
   pub letter : ℕ → ℕ
   pub distance : ℕ → ℕ
@@ -51,50 +53,68 @@ pub record RightSheet (b m : List ℕ) (sheet : List ℕ) : Type 0 where
   -- the rotations are those of document 01's list
   pub numbered : Canonical (market b) (proposer-optimal (market b)) (rotationCount b) (rotation (market b))
   -- each line is right
-  pub lines : {s : ℕ} → s < people b → RightLine b m s (letter s) (distance s)
-  -- the grade is the least number such that for each pair that is not fixed some stable matching without it moves at
-  -- most so many others
-  pub covers : Covers b m grade
-  pub least : (g : ℕ) → Covers b m g → grade ≤ g
+  pub lines : {s : ℕ} → s < people b → RightLine b c m s (letter s) (distance s)
+  -- the grade is the least number such that for each pair that is not fixed some stable matching without it moves
+  -- others that weigh at most so much
+  pub covers : Covers b c m grade
+  pub least : (g : ℕ) → Covers b c m g → grade ≤ g
 
 -- the letter and the distance of an answer say it
-answer-says : (b m : List ℕ) (a : Answer) → Says (letterOf a) (distanceOf b m a) (withDistance b m a)
-answer-says b m (U v) = says-up _
-answer-says b m (D v) = says-down _
-answer-says b m F = says-fixed
+answer-says : (b : List ℕ) (c : ℕ → ℕ) (m : List ℕ) (a : Answer) → Says (letterOf a) (distanceOf b c m a) (withDistance b c m a)
+answer-says b c m (U v) = says-up _
+answer-says b c m (D v) = says-down _
+answer-says b c m F = says-fixed
 
 -- so each line is right
-line-right : {b m : List ℕ} → StableIn b m → {s : ℕ} → s < people b → RightLine b m s (letterOf (answerFor b m s)) (distanceOf b m (answerFor b m s))
-line-right {b} {m} S {s} u =
-    let A = answer-of (market-proper (S .matching .formed)) (λ i. 1) (vector-stable S) (holds S u) in
-    let a = answerFor b m s in
+line-right : {b m : List ℕ} → StableIn b m → (c : ℕ → ℕ) {s : ℕ} → s < people b → RightLine b c m s (letterOf (answerFor b c m s)) (distanceOf b c m (answerFor b c m s))
+line-right {b} {m} S c {s} u =
+    let A = answer-of (market-proper (S .matching .formed)) c (vector-stable S) (holds S u) in
+    let a = answerFor b c m s in
     record {
-      answer = withDistance b m a;
-      says = answer-says b m a;
-      fixed-exactly = reply-fixed S u A;
-      taken = λ n. (take (people b) (filled fine (entriesFor b a) (matchingFor b a) []), reply-takes S u [] A n .0, reply-takes S u [] A n .1);
+      answer = withDistance b c m a;
+      says = answer-says b c m a;
+      fixed-exactly = reply-fixed S u c A;
+      taken = λ n. (take (people b) (filled fine (entriesFor b a) (matchingFor b a) []), reply-takes S u c [] A n .0, reply-takes S u c [] A n .1);
+    }
+
+-- and so is the sheet, where nothing is refused
+right : (b : List ℕ) (c : ℕ → ℕ) (m : List ℕ) → checkMatching b m ≡ fine → {v : Verdict} → v ≡ fine → RightSheet b c m (sheetAfter v b c m)
+unfolding answers
+right b c m f e =
+    let S = fine-stable b m .0 f in
+    record {
+      grade = gradeOf b c m;
+      letter = λ s. letterOf (answerFor b c m s);
+      distance = λ s. distanceOf b c m (answerFor b c m s);
+      text = rw e;
+      numbered = rotations-canonical (market-proper (S .matching .formed));
+      lines = λ u. line-right S c u;
+      covers = grade-covers S c;
+      least = grade-least S c;
     }
 
 module _ (input : List ℕ) where
   -- Where the check answered stable, the sheet is right
-  pub sheet-right : checkMatching (bookPart input) (matchingPart input) ≡ fine → RightSheet (bookPart input) (matchingPart input) (sheetOf input)
-  unfolding sheetOf answers
-  sheet-right f =
-      let b = bookPart input in
-      let m = matchingPart input in
-      let S = fine-stable b m .0 f in
-      record {
-        grade = gradeOf b m;
-        letter = λ s. letterOf (answerFor b m s);
-        distance = λ s. distanceOf b m (answerFor b m s);
-        text = rw f;
-        numbered = rotations-canonical (market-proper (S .matching .formed));
-        lines = λ u. line-right S u;
-        covers = grade-covers S;
-        least = grade-least S;
-      }
+  pub sheet-right : checkMatching (bookPart input) (matchingPart input) ≡ fine → RightSheet (bookPart input) (λ i. 1) (matchingPart input) (sheetOf input)
+  unfolding sheetOf
+  sheet-right f = right (bookPart input) (λ i. 1) (matchingPart input) f f
 
   -- and otherwise it is the line of the refusal
   pub sheet-refused : {number place second : ℕ} → checkMatching (bookPart input) (matchingPart input) ≡ refused number place second → sheetOf input ≡ refusalLine number
   unfolding sheetOf
   sheet-refused e = rw e
+
+  -- The same of the weighted sheet
+  pub weighted-sheet-right :
+      checkWeighed (bookPart input) (weighedPart input) (weightsPart input) ≡ fine →
+      RightSheet (bookPart input) (weightOf (weightsPart input)) (weighedPart input) (weightedSheetOf input)
+  unfolding weightedSheetOf
+  weighted-sheet-right f =
+      right (bookPart input) (weightOf (weightsPart input)) (weighedPart input)
+      (all-fine (checkMatching (bookPart input) (weighedPart input)) _ f .0) f
+
+  pub weighted-sheet-refused :
+      {number place second : ℕ} → checkWeighed (bookPart input) (weighedPart input) (weightsPart input) ≡ refused number place second →
+      weightedSheetOf input ≡ refusalLine number
+  unfolding weightedSheetOf
+  weighted-sheet-refused e = rw e

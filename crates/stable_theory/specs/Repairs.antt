@@ -10,3 +10,4 @@ pub mod RobustLaws
 pub mod Demand3Theory
 pub mod Shared
 pub mod BothSides
+pub mod Weights

@@ -90,22 +90,22 @@ module _ {b m : List ℕ} {R : Record} {j : Judged} (J : BookJudged b m R j) (f 
       }
 
   -- the answer over the record is the answer for the bytes
-  pub answer-book : {s : ℕ} → s < R .n → SameAnswer (marketIn R) (answerOf (marketIn R) (λ i. 1) (vec (j .places .men)) s) (answerFor b m s)
-  answer-book u =
+  pub answer-book : (c : ℕ → ℕ) {s : ℕ} → s < R .n → SameAnswer (marketIn R) (answerOf (marketIn R) c (vec (j .places .men)) s) (answerFor b c m s)
+  answer-book c u =
       let M = judged-usable .men .proper in
-      answer-alike M (market-proper judged-formed) judged-alike (λ i. 1) judged-men given-stable (hold-at M (vec (j .places .men)) u (given-placed u))
+      answer-alike M (market-proper judged-formed) judged-alike c judged-men given-stable (hold-at M (vec (j .places .men)) u (given-placed u))
 
   -- so are its distance
-  pub far-book : {s : ℕ} → s < R .n → farOf (marketIn R) (vec (j .places .men)) (answerOf (marketIn R) (λ i. 1) (vec (j .places .men)) s) ≡ farOf (market b) (vectorOf b m) (answerFor b m s)
-  far-book {s} u = far-same (vec (j .places .men)) (answer-book u) ∙ far-alike judged-alike judged-men (answerFor b m s)
+  pub far-book : (c : ℕ → ℕ) {s : ℕ} → s < R .n → farOf (marketIn R) c (vec (j .places .men)) (answerOf (marketIn R) c (vec (j .places .men)) s) ≡ farOf (market b) c (vectorOf b m) (answerFor b c m s)
+  far-book c {s} u = far-same c (vec (j .places .men)) (answer-book c u) ∙ far-alike judged-alike c judged-men (answerFor b c m s)
 
   -- and what the search says
-  pub shows-book : {s : ℕ} {r : Nearest} → s < R .n → ShowsFor R (vec (j .places .men)) s r → Shows (market b) (vectorOf b m) (answerFor b m s) r
-  shows-book {s} u S = shows-alike judged-alike judged-men (answerFor b m s) (shows-same (answer-book u) S)
+  pub shows-book : (c : ℕ → ℕ) {s : ℕ} {r : Nearest} → s < R .n → ShowsFor R c (vec (j .places .men)) s r → Shows (market b) c (vectorOf b m) (answerFor b c m s) r
+  shows-book c {s} u S = shows-alike judged-alike judged-men (answerFor b c m s) (shows-same (answer-book c u) S)
 
   -- and the largest cost over the record is the grade
-  pub grade-book : maximum (R .n) (costs (marketIn R) (vec (j .places .men))) ≡ gradeOf b m
-  grade-book =
+  pub grade-book : (c : ℕ → ℕ) → maximum (R .n) (costs (marketIn R) c (vec (j .places .men))) ≡ gradeOf b c m
+  grade-book c =
       let M = judged-usable .men .proper in
-      costs-alike M (market-proper judged-formed) judged-alike judged-men given-stable
+      costs-alike M (market-proper judged-formed) judged-alike c judged-men given-stable
       (λ s u. (_, hold-at M (vec (j .places .men)) u (given-placed u)))

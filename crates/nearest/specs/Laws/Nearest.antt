@@ -1,6 +1,6 @@
 -- The nearest repair: what the two pushes give is the answer, and the answer is the same in markets that are alike.
 -- Assumes nothing.
-use Prim.Native.Nat.{ℕ, _+_, _≤_, _<_, _*_}
+use Prim.Native.Nat.{ℕ, _+_, _*_, _≤_, _<_}
 use mathlib.Core.Path.{_≡_, refl, _∙_}
 use mathlib.Core.List.{List}
 use native.Mathlib.Omega.{arith}
@@ -22,26 +22,27 @@ use Rattle.tables.specs.Laws.Rows.{stored-index}
 use Rattle.format.specs.Record.{Record}
 use Rattle.instances.specs.Usable.{marketIn}
 use Rattle.pushing.specs.Push.{Pushable}
+use Rattle.pushing.specs.Laws.Pushes.{weight-most}
 use Rattle.nearest.specs.declared.answer.Letter.the-variants.{Up, Down, Fixed}
 use Rattle.nearest.specs.declared.answer.Nearest.{Nearest}
-use Rattle.nearest.specs.Tried.{Tries, Distant}
-use Rattle.nearest.specs.Laws.Tried.{weight-most, distant-down, repair-up, distance-up, distant-up, answers-down, answers-up, answers-fixed}
-use Rattle.nearest.specs.Nearest.{Given, Shows}
+use Rattle.nearest.specs.Tried.{noRepair, Tries, Distant}
+use Rattle.nearest.specs.Laws.Tried.{distant-down, repair-up, distance-up, distant-up, answers-down, answers-up, answers-fixed}
+use Rattle.nearest.specs.Nearest.{Given, BothWeighed, Shows}
 
 -- the same answer, said so too
-pub shows-same : {I : Market} {p : ℕ → ℕ} {a b : Answer} {r : Nearest} → SameAnswer I a b → Shows I p a r → Shows I p b r
-shows-same {I} {p} (same-up {u} {v} e) K =
-    record { letter = K .letter; distance = K .distance ∙ weight-same I (λ i. 1) p u v e; places = λ i l. K .places i l ∙ e i l; long = K .long }
-shows-same {I} {p} (same-down {u} {v} e) K =
-    record { letter = K .letter; distance = K .distance ∙ weight-same I (λ i. 1) p u v e; places = λ i l. K .places i l ∙ e i l; long = K .long }
+pub shows-same : {I : Market} {c p : ℕ → ℕ} {a b : Answer} {r : Nearest} → SameAnswer I a b → Shows I c p a r → Shows I c p b r
+shows-same {I} {c} {p} (same-up {u} {v} e) K =
+    record { letter = K .letter; distance = K .distance ∙ weight-same I c p u v e; places = λ i l. K .places i l ∙ e i l; long = K .long }
+shows-same {I} {c} {p} (same-down {u} {v} e) K =
+    record { letter = K .letter; distance = K .distance ∙ weight-same I c p u v e; places = λ i l. K .places i l ∙ e i l; long = K .long }
 shows-same same-fixed K = K
 
 -- and in a market that is alike, of vectors that agree
-pub shows-alike : {I J : Market} (A : Alike I J) {p q : ℕ → ℕ} (e : Same I p q) (a : Answer) {r : Nearest} → Shows I p a r → Shows J q a r
-shows-alike A e (U v) K =
-    record { letter = K .letter; distance = K .distance ∙ weight-alike A e (λ i. 1) v v (λ i l. refl); places = λ i l. K .places i (omega (arith, A .proposing .size)); long = K .long }
-shows-alike A e (D v) K =
-    record { letter = K .letter; distance = K .distance ∙ weight-alike A e (λ i. 1) v v (λ i l. refl); places = λ i l. K .places i (omega (arith, A .proposing .size)); long = K .long }
+pub shows-alike : {I J : Market} (A : Alike I J) {c p q : ℕ → ℕ} (e : Same I p q) (a : Answer) {r : Nearest} → Shows I c p a r → Shows J c q a r
+shows-alike A {c} e (U v) K =
+    record { letter = K .letter; distance = K .distance ∙ weight-alike A e c v v (λ i l. refl); places = λ i l. K .places i (omega (arith, A .proposing .size)); long = K .long }
+shows-alike A {c} e (D v) K =
+    record { letter = K .letter; distance = K .distance ∙ weight-alike A e c v v (λ i l. refl); places = λ i l. K .places i (omega (arith, A .proposing .size)); long = K .long }
 shows-alike {I} A e F K =
     record {
       letter = K .letter;
@@ -50,6 +51,12 @@ shows-alike {I} A e F K =
       long = K .long;
     }
 
+-- no total comes to that which stands for no repair
+pub weight-below : {R : Record} {men women weights carried : List ℕ} → Given R men women → BothWeighed R (vec men) weights carried → (k : ℕ → ℕ) → weight (marketIn R) (vec weights) (vec men) k < noRepair
+weight-below {R} {men} {weights = weights} G B k =
+    omega (arith, G .few, weight-most (marketIn R) (vec weights) (vec men) k (λ i u. B .men .light u))
+
+-- The pair of man s of a stable matching of a record
 module _ {R : Record} {men women : List ℕ} (G : Given R men women) {s : ℕ} (u : s < R .n) where
   abbrev n : ℕ
   n = R .n
@@ -81,36 +88,40 @@ module _ {R : Record} {men women : List ℕ} (G : Given R men women) {s : ℕ} (
         }
 
     -- an answer that is right is the one that is worked out
-    pub right : {a : Answer} → Answers I (λ i. 1) (vec men) s a → SameAnswer I a (answerOf I (λ i. 1) (vec men) s)
-    right X = answer-unique X (answer-of (G .by-men .proper) (λ i. 1) (G .stable) hold)
+    pub right : {c : ℕ → ℕ} {a : Answer} → Answers I c (vec men) s a → SameAnswer I a (answerOf I c (vec men) s)
+    right {c} X = answer-unique X (answer-of (G .by-men .proper) c (G .stable) hold)
 
-    -- a push of w on the women's side says how near the repair up is
-    pub up-distant : {v x : ℕ → ℕ} {stop far : ℕ} → Tries (exchange I) (vec women) w stop v x far → Distant I (λ i. 1) (vec men) (IsUp I (vec men) s) stop far
-    up-distant B = distant-up (G .by-men .proper) (G .stable) (G .mirror) hold B
+    module _ {weights carried : List ℕ} (B : BothWeighed R (vec men) weights carried) where
+      -- the weight of each man
+      abbrev c : ℕ → ℕ
+      c = vec weights
 
-    module _ {d t v x : ℕ → ℕ} {above below : ℕ} (B : Tries (exchange I) (vec women) w (n + 1) v x above) (A : Tries I (vec men) s above d t below) where
-      -- nobody is moved farther than n
-      most : (k : ℕ → ℕ) → weight I (λ i. 1) (vec men) k < n + 1
-      most k = omega (arith, weight-most I (vec men) k)
+      -- a push of w on the women's side says how near the repair up is
+      pub up-distant : {v x : ℕ → ℕ} {stop far : ℕ} → Tries (exchange I) (vec carried) (vec women) w stop v x far → Distant I c (vec men) (IsUp I (vec men) s) stop far
+      up-distant T = distant-up (G .by-men .proper) (G .stable) (G .mirror) hold (B .both) T
 
-      -- the three answers of the code
-      pub says-down : {places : List ℕ} → ((i : ℕ) → i < n → vec places i ≡ d i) → length places ≡ largest → below < above →
-          Shows I (vec men) (answerOf I (λ i. 1) (vec men) s) (record { letter = Down; distance = below; men = places })
-      says-down e h l =
-          shows-same (right (answers-down most (up-distant B) (distant-down A) (omega arith) (A .repair l) (A .distance l) l))
-          (record { letter = refl; distance = A .distance l; places = e; long = h })
+      -- nothing weighs so much that it stands for no repair
+      most : (k : ℕ → ℕ) → weight I c (vec men) k < noRepair
+      most = weight-below G B
 
-      pub says-fixed : length men ≡ largest → above ≤ below → n < above →
-          Shows I (vec men) (answerOf I (λ i. 1) (vec men) s) (record { letter = Fixed; distance = 0; men = men })
-      says-fixed h l f =
-          shows-same (right (answers-fixed most (up-distant B) (distant-down A) (omega arith) l (omega arith)))
-          (record { letter = refl; distance = refl; places = λ i v. refl; long = h })
+      module _ {d t v x : ℕ → ℕ} {above below : ℕ} (T : Tries (exchange I) (vec carried) (vec women) w noRepair v x above) (A : Tries I c (vec men) s above d t below) where
+        -- the three answers of the code
+        pub says-down : {places : List ℕ} → ((i : ℕ) → i < n → vec places i ≡ d i) → length places ≡ largest → below < above →
+            Shows I c (vec men) (answerOf I c (vec men) s) (record { letter = Down; distance = below; men = places })
+        says-down e h l =
+            shows-same (right (answers-down most (up-distant T) (distant-down A) (omega arith) (A .repair l) (A .distance l) l))
+            (record { letter = refl; distance = A .distance l; places = e; long = h })
 
-      pub says-up : {places : List ℕ} → ((i : ℕ) → i < n → vec places i ≡ x i) → length places ≡ largest → above ≤ below → above ≤ n →
-          Shows I (vec men) (answerOf I (λ i. 1) (vec men) s) (record { letter = Up; distance = above; men = places })
-      says-up e h l f =
-          let g : above < n + 1 = omega arith in
-          let X = repair-up (G .by-men .proper) (G .stable) (G .mirror) hold B g in
-          let q = distance-up (G .by-men .proper) (G .stable) (G .mirror) hold B g in
-          shows-same (right (answers-up most (up-distant B) (distant-down A) (omega arith) X q l))
-          (record { letter = refl; distance = q; places = e; long = h })
+        pub says-fixed : length men ≡ largest → above ≤ below → noRepair ≤ above →
+            Shows I c (vec men) (answerOf I c (vec men) s) (record { letter = Fixed; distance = 0; men = men })
+        says-fixed h l f =
+            shows-same (right (answers-fixed most (up-distant T) (distant-down A) (omega arith) l f))
+            (record { letter = refl; distance = refl; places = λ i v. refl; long = h })
+
+        pub says-up : {places : List ℕ} → ((i : ℕ) → i < n → vec places i ≡ x i) → length places ≡ largest → above ≤ below → above < noRepair →
+            Shows I c (vec men) (answerOf I c (vec men) s) (record { letter = Up; distance = above; men = places })
+        says-up e h l g =
+            let X = repair-up (G .by-men .proper) (G .stable) (G .mirror) hold (B .both) T g in
+            let q = distance-up (G .by-men .proper) (G .stable) (G .mirror) hold (B .both) T g in
+            shows-same (right (answers-up most (up-distant T) (distant-down A) (omega arith) X q l))
+            (record { letter = refl; distance = q; places = e; long = h })

@@ -10,9 +10,9 @@ use Rattle.stable_theory.specs.Stable.Market.{Market, Proper, exchange}
 use Rattle.stable_theory.specs.Stable.Holding.{Same, stable-same, hold-at}
 use Rattle.stable_theory.specs.Stable.Alike.{alike-refl, mirror-alike}
 use Rattle.tables.specs.Lists.{Sized}
-use Rattle.pushing.specs.Push.{Pushable, PushCounted, PushedTo}
+use Rattle.pushing.specs.Push.{Pushable, PushWeighed, PushedTo}
 use Rattle.nearest.specs.Tried.{Tries}
-use Rattle.nearest.specs.Laws.Tried.{counted-tries, tries-same}
+use Rattle.nearest.specs.Laws.Tried.{weighed-tries, tries-same}
 
 -- the front of a list has its entries
 front-same : (I : Market) (l : List ℕ) → Same I (vec l) (vec (take (I .proposers .size) l))
@@ -40,12 +40,12 @@ module _ {I : Market} (M : Proper I) (p t : List ℕ) (long : (I .proposers .siz
 
     -- what the push says there it says of the whole
     pub front-tries :
-        (x y : List ℕ) {stop far : ℕ} →
+        (c : ℕ → ℕ) (x y : List ℕ) {stop far : ℕ} →
         length x ≡ length (take (I .proposers .size) p) → length y ≡ length (take (I .receivers .size) t) →
-        PushCounted I (vec (take (I .proposers .size) p)) s stop far →
+        PushWeighed I c (vec (take (I .proposers .size) p)) s stop far →
         (far < stop → PushedTo I (vec (take (I .proposers .size) p)) s (vec x) (vec y)) →
-        Tries I (vec p) s stop (vec (x ++ drop (I .proposers .size) p)) (vec (y ++ drop (I .receivers .size) t)) far
-    front-tries x y e f R T =
+        Tries I c (vec p) s stop (vec (x ++ drop (I .proposers .size) p)) (vec (y ++ drop (I .receivers .size) t)) far
+    front-tries c x y e f R T =
         let h = hold-at M (vec (take (I .proposers .size) p)) (P .proposer) (front-pushable .placed) in
         tries-same (P .proposer) (λ i u. sym (front-same I p i u)) (back-same I x _ (e ∙ front-sized .places))
-        (back-same (exchange I) y _ (f ∙ front-sized .bests)) (counted-tries M (front-pushable .stable) h R T)
+        (back-same (exchange I) y _ (f ∙ front-sized .bests)) (weighed-tries M (front-pushable .stable) h R T)

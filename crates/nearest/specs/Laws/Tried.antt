@@ -4,98 +4,88 @@ use Prim.Native.Nat.{ℕ, _+_, _≤_, _<_}
 use mathlib.Core.Path.{_≡_, refl, sym, _∙_}
 use native.Mathlib.Omega.{arith}
 use Rattle.laws.specs.Choice.{split}
-use Rattle.laws.specs.SumLaws.{count-most}
 use Rattle.stable_theory.specs.Stable.Market.{Market, Proper, exchange, exchanged}
 use Rattle.stable_theory.specs.Stable.Vector.{Holds, Stable, Mirror}
 use Rattle.stable_theory.specs.Stable.Holding.{Same}
 use Rattle.stable_theory.specs.Stable.Mirror.{mirror-of, mirror-back, mirror-order, stable-across}
 use Rattle.stable_theory.specs.Stable.Alike.{alike-refl, mirror-alike}
-use Rattle.stable_theory.specs.Repairs.Repair.{IsDown, IsUp, down, moved, weight, distance}
+use Rattle.stable_theory.specs.Repairs.Repair.{IsDown, IsUp, down, weight}
 use Rattle.stable_theory.specs.Repairs.RepairLaws.{down-is, down-exists, down-unique, up-unique, parts-across, down-across}
-use Rattle.stable_theory.specs.Repairs.Moves.{weight-same, distance-weight}
-use Rattle.stable_theory.specs.Repairs.BothSides.{distance-both}
+use Rattle.stable_theory.specs.Repairs.Moves.{weight-same}
+use Rattle.stable_theory.specs.Repairs.BothSides.{Carried, weight-both}
 use Rattle.stable_theory.specs.Repairs.Answer.{U, D, F, Answers, nearer-up, nearer-down, neither}
 use Rattle.stable_theory.specs.Repairs.AnswerAlike.{down-alike, weight-alike}
-use Rattle.pushing.specs.Push.{PushCounted, PushedTo}
+use Rattle.pushing.specs.Push.{PushWeighed, PushedTo}
 use Rattle.nearest.specs.Tried.{Tries, Distant}
 
--- no more than all are moved
-pub weight-most : (I : Market) (p v : ℕ → ℕ) → weight I (λ i. 1) p v ≤ I .proposers .size
-unfolding weight
-weight-most I p v = count-most (I .proposers .size) (moved p v)
-
 -- p is stable and s holds w
-module _ {I : Market} (M : Proper I) {p : ℕ → ℕ} {s w : ℕ} (P : Stable I p) (h : Holds I p s w) {v t : ℕ → ℕ} {stop far : ℕ} where
+module _ {I : Market} (M : Proper I) {p : ℕ → ℕ} {s w : ℕ} (P : Stable I p) (h : Holds I p s w) {c v t : ℕ → ℕ} {stop far : ℕ} where
   -- the answer of the kernel says so: where there is a repair down, it is the least settled vector after s goes on
-  pub counted-tries : PushCounted I p s stop far → (far < stop → PushedTo I p s v t) → Tries I p s stop v t far
-  unfolding down weight
-  counted-tries R T =
+  pub weighed-tries : PushWeighed I c p s stop far → (far < stop → PushedTo I p s v t) → Tries I c p s stop v t far
+  unfolding down
+  weighed-tries R T =
       let same : far < stop → Same I (down I p s) v = λ z i u. sym (T z .least i u) in
       record {
         repair = λ z. down-alike (alike-refl I) (λ i u. refl) (h .pair .proposer) (same z) (down-is M P h (R .near z .0));
         mirror = λ z. T z .mirror;
-        distance = λ z. R .near z .1 ∙ weight-same I (λ i. 1) p (down I p s) v (same z);
+        distance = λ z. R .near z .1 ∙ weight-same I c p (down I p s) v (same z);
         further = λ z d X.
             let E = down-exists M P h (X .parts) (X .after) in
-            omega (arith, R .far z E, weight-same I (λ i. 1) p (down I p s) d (down-unique (down-is M P h E) X));
+            omega (arith, R .far z E, weight-same I c p (down I p s) d (down-unique (down-is M P h E) X));
         most = R .most;
       }
 
 -- what a push says depends on the places of the proposers and receivers alone
 pub tries-same :
-    {I : Market} {p q v v′ t t′ : ℕ → ℕ} {s stop far : ℕ} → s < I .proposers .size →
-    Same I p q → Same I v v′ → Same (exchange I) t t′ → Tries I p s stop v t far → Tries I q s stop v′ t′ far
-tries-same {I} {v = v} {v′ = v′} u e f g R =
+    {I : Market} {c p q v v′ t t′ : ℕ → ℕ} {s stop far : ℕ} → s < I .proposers .size →
+    Same I p q → Same I v v′ → Same (exchange I) t t′ → Tries I c p s stop v t far → Tries I c q s stop v′ t′ far
+tries-same {I} {c = c} {v = v} {v′ = v′} u e f g R =
     let A = alike-refl I in
     record {
       repair = λ z. down-alike A e u f (R .repair z);
       mirror = λ z. mirror-alike A f g (R .mirror z);
-      distance = λ z. R .distance z ∙ weight-alike A e (λ i. 1) v v′ f;
+      distance = λ z. R .distance z ∙ weight-alike A e c v v′ f;
       further = λ z d X.
           let Y = down-alike A (λ i l. sym (e i l)) u (λ i l. refl) X in
-          omega (arith, R .further z d Y, weight-alike A e (λ i. 1) d d (λ i l. refl));
+          omega (arith, R .further z d Y, weight-alike A e c d d (λ i l. refl));
       most = R .most;
     }
 
 -- a push of s says how near the repair down is
-pub distant-down : {I : Market} {p v t : ℕ → ℕ} {s stop far : ℕ} → Tries I p s stop v t far → Distant I (λ i. 1) p (IsDown I p s) stop far
+pub distant-down : {I : Market} {c p v t : ℕ → ℕ} {s stop far : ℕ} → Tries I c p s stop v t far → Distant I c p (IsDown I p s) stop far
 distant-down {v = v} R = record { near = λ z. (v, R .repair z, R .distance z); further = R .further }
 
--- s holds w under the stable vector p, whose other side is t
-module _ {I : Market} (M : Proper I) {p t : ℕ → ℕ} {s w : ℕ} (P : Stable I p) (X : Mirror I p t) (h : Holds I p s w) where
+-- s holds w under the stable vector p, whose other side is t, and each receiver has the weight of who holds her
+module _ {I : Market} (M : Proper I) {p t : ℕ → ℕ} {s w : ℕ} (P : Stable I p) (X : Mirror I p t) (h : Holds I p s w) {c d : ℕ → ℕ} (C : Carried I p c d) where
   -- the other side's repair down is the repair up, and is as near
-  across-near : {e u : ℕ → ℕ} → Mirror I u e → IsDown (exchange I) t w e → weight (exchange I) (λ i. 1) t e ≡ weight I (λ i. 1) p u
-  across-near {e} {u} Y L =
-      let N = exchanged M in
-      sym (distance-weight (exchange I) t e)
-      ∙ distance-both N (stable-across M X P) (L .parts .stable) (mirror-back X) (mirror-back Y) (L .after)
-      ∙ distance-weight I p u
+  across-near : {e u : ℕ → ℕ} → Mirror I u e → IsDown (exchange I) t w e → weight (exchange I) d t e ≡ weight I c p u
+  across-near Y L = sym (weight-both M P (stable-across (exchanged M) (mirror-back Y) (L .parts .stable)) X Y C)
 
   -- where there is a repair up, there is that repair down, and it is as near
-  across-back : {d : ℕ → ℕ} → IsUp I p s d → (e : ℕ → ℕ) × IsDown (exchange I) t w e × (weight (exchange I) (λ i. 1) t e ≡ weight I (λ i. 1) p d)
-  across-back {d} Y =
+  across-back : {r : ℕ → ℕ} → IsUp I p s r → (e : ℕ → ℕ) × IsDown (exchange I) t w e × (weight (exchange I) d t e ≡ weight I c p r)
+  across-back {r} Y =
       let N = exchanged M in
       let Z = mirror-of M (Y .parts .stable .settled) in
       let T = stable-across M X P in
       let E = down-is N T (X .there h) (down-exists N T (X .there h) (parts-across M X Z h (Y .parts)) (mirror-order M Z X P (Y .before))) in
       let W = mirror-back (mirror-of N (E .parts .stable .settled)) in
       let Q = down-across M P X W h E in
-      (down (exchange I) t w, E, across-near W E ∙ weight-same I (λ i. 1) p _ d (up-unique Q Y))
+      (down (exchange I) t w, E, across-near W E ∙ weight-same I c p _ r (up-unique Q Y))
 
-  module _ {e u : ℕ → ℕ} {stop far : ℕ} (R : Tries (exchange I) t w stop e u far) where
+  module _ {e u : ℕ → ℕ} {stop far : ℕ} (R : Tries (exchange I) d t w stop e u far) where
     -- so a push of w there gives the repair up
     pub repair-up : far < stop → IsUp I p s u
     repair-up z = down-across M P X (mirror-back (R .mirror z)) h (R .repair z)
 
-    pub distance-up : far < stop → far ≡ weight I (λ i. 1) p u
+    pub distance-up : far < stop → far ≡ weight I c p u
     distance-up z = R .distance z ∙ across-near (mirror-back (R .mirror z)) (R .repair z)
 
     -- or says how near it is not
-    pub distant-up : Distant I (λ i. 1) p (IsUp I p s) stop far
+    pub distant-up : Distant I c p (IsUp I p s) stop far
     distant-up =
         record {
           near = λ z. (u, repair-up z, distance-up z);
-          further = λ z d Y. let (e′, E, q) = across-back Y in omega (arith, R .further z e′ E);
+          further = λ z r Y. let (e′, E, q) = across-back Y in omega (arith, R .further z e′ E);
         }
 
 -- The two repairs of the pair of s, the nearness of which is below `all`: `far` says it of the repair up, and `near`,

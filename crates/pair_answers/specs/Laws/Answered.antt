@@ -1,13 +1,13 @@
 -- From the groups and what is measured of them to the answer for each pair, and the grade from the distances. Assumes
 -- nothing.
-use Prim.Native.Nat.{ℕ, _+_, _-_, _≤_, _<_}
-use mathlib.Core.Path.{_≡_, refl, sym, _∙_, ap}
+use Prim.Native.Nat.{ℕ, _-_, _≤_, _<_}
+use mathlib.Core.Path.{_≡_, refl, _∙_, ap}
 use mathlib.Core.List.{List}
 use native.Mathlib.Omega.{arith}
 use lib.ListN.{length}
-use borrow.Author.Tests.{lt-ltb, le-ltb}
+use borrow.Author.Tests.{lt-ltb, le-ltb, le-leb, lt-leb}
 use Rattle.laws.specs.Choice.{split}
-use Rattle.laws.specs.Maximum.{maximum, maximum-same, maximum-less}
+use Rattle.laws.specs.Maximum.{maximum, maximum-same}
 use Rattle.laws.specs.Values.{vec}
 use Rattle.format.specs.Record.{Record}
 use Rattle.stable_theory.specs.Stable.Market.{Market}
@@ -15,11 +15,11 @@ use Rattle.stable_theory.specs.Repairs.Repair.{IsDown, IsUp, weight}
 use Rattle.stable_theory.specs.Repairs.Answer.{Answer, U, D, F, answerOf, Answers, SameAnswer, same-up, same-down, same-fixed}
 use Rattle.matchings.specs.declared.places.Places.{Places}
 use Rattle.instances.specs.Usable.{marketIn}
-use Rattle.nearest.specs.Tried.{Distant}
-use Rattle.nearest.specs.Nearest.{Given, GivenIn, farOf, costs}
-use Rattle.nearest.specs.Laws.Tried.{weight-most, answers-down, answers-up, answers-fixed}
+use Rattle.nearest.specs.Tried.{noRepair, Distant}
+use Rattle.nearest.specs.Nearest.{GivenIn, BothWeighed, farOf, costs}
+use Rattle.nearest.specs.Laws.Tried.{answers-down, answers-up, answers-fixed}
 use Rattle.nearest.specs.Laws.Grade.{far-same}
-use Rattle.nearest.specs.Laws.Nearest.{right}
+use Rattle.nearest.specs.Laws.Nearest.{right, weight-below}
 use Rattle.pair_groups.specs.declared.groups.Groups.{Groups}
 use Rattle.pair_groups.specs.Groups.{GroupsOf}
 use Rattle.pair_measures.specs.Measured.{leadFar, BothMeasured, Filled}
@@ -33,8 +33,8 @@ letter-same (same-down e) = refl
 letter-same same-fixed = refl
 
 -- The groups of a stable matching of a record, what is measured of them, and what is filled in
-module _ {R : Record} {p : Places} (G : GivenIn R p) {groups : Groups} (W : GroupsOf R (vec (p .men)) groups) {above below : ℕ → ℕ} (letters distances : List ℕ)
-    (A : BothMeasured (marketIn R) (vec (p .men)) (R .n) (vec (groups .down)) (vec (groups .up)) above below)
+module _ {R : Record} {p : Places} (G : GivenIn R p) {weights carried : List ℕ} (B : BothWeighed R (vec (p .men)) weights carried) {groups : Groups} (W : GroupsOf R (vec (p .men)) groups) {above below : ℕ → ℕ} (letters distances : List ℕ)
+    (A : BothMeasured (marketIn R) (vec weights) (vec (p .men)) (R .n) (vec (groups .down)) (vec (groups .up)) above below)
     (E : Filled (R .n) (vec (groups .down)) (vec (groups .up)) below above (R .n) (vec letters) (vec distances)) where
   abbrev n : ℕ
   n = R .n
@@ -45,6 +45,9 @@ module _ {R : Record} {p : Places} (G : GivenIn R p) {groups : Groups} (W : Grou
   abbrev men : ℕ → ℕ
   men = vec (p .men)
 
+  abbrev c : ℕ → ℕ
+  c = vec weights
+
   abbrev over : ℕ → ℕ
   over s = leadFar n (vec (groups .up) s) above
 
@@ -52,57 +55,55 @@ module _ {R : Record} {p : Places} (G : GivenIn R p) {groups : Groups} (W : Grou
   near s = leadFar n (vec (groups .down) s) below
 
   module _ {s : ℕ} (u : s < n) where
-    -- the distance up is exact, and n + 1 where there is no repair up
-    up-distant : Distant I (λ i. 1) men (IsUp I men s) (n + 1) (over s)
+    -- the distance up is exact
+    up-distant : Distant I c men (IsUp I men s) noRepair (over s)
     up-distant = lead-distant (W .ups) (A .ups) u (λ l X m. X) (λ X e. X)
 
     -- the distance down is exact below a bound that the distance up does not pass
-    down-distant : (stop : ℕ) × Distant I (λ i. 1) men (IsDown I men s) stop (near s) × (over s ≤ stop)
+    down-distant : (stop : ℕ) × Distant I c men (IsDown I men s) stop (near s) × (over s ≤ stop)
     down-distant =
         lead-distant (W .downs) (A .downs) u
         (λ l X m. (A .bound (vec (groups .down) s), X, A .bounded .over u l))
-        (λ X e. (n + 1, X, lead-most (W .ups) (A .ups) u))
+        (λ X e. (noRepair, X, lead-most (W .ups) (A .ups) u))
 
-    most : (k : ℕ → ℕ) → weight I (λ i. 1) men k < n + 1
-    most k = omega (arith, weight-most I men k)
+    most : (k : ℕ → ℕ) → weight I c men k < noRepair
+    most = weight-below G B
 
     -- so the letter and the distance are those of the answer
-    answer-at : AnswerAt I men letters distances s
+    answer-at : AnswerAt I c men letters distances s
     answer-at =
         let (stop, X, l) = down-distant in
         split (over s) (near s)
-        (λ b. split (over s) n
+        (λ b. split noRepair (over s)
         (λ f.
-        let (v, Y, e) = up-distant .near (omega arith) in
-        let Q = right G u refl refl (answers-up most up-distant X l Y e b) in
+        let Q = right G u refl refl (answers-fixed most up-distant X l b f) in
         record {
-          letter = E .letter u ∙ rw (le-ltb (near s) (over s) b, le-ltb n (over s) f) (letter-same Q);
-          distance = E .distance u ∙ rw (le-ltb (near s) (over s) b, le-ltb n (over s) f) (e ∙ far-same men Q);
+          letter = E .letter u ∙ rw (le-ltb (near s) (over s) b, le-leb noRepair (over s) f) (letter-same Q);
+          distance = E .distance u ∙ rw (le-ltb (near s) (over s) b, le-leb noRepair (over s) f) (far-same c men Q);
         })
         (λ f.
-        let Q = right G u refl refl (answers-fixed most up-distant X l b (omega arith)) in
+        let (v, Y, e) = up-distant .near f in
+        let Q = right G u refl refl (answers-up most up-distant X l Y e b) in
         record {
-          letter = E .letter u ∙ rw (le-ltb (near s) (over s) b, lt-ltb n (over s) f) (letter-same Q);
-          distance = E .distance u ∙ rw (le-ltb (near s) (over s) b, lt-ltb n (over s) f) (far-same men Q);
+          letter = E .letter u ∙ rw (le-ltb (near s) (over s) b, lt-leb noRepair (over s) f) (letter-same Q);
+          distance = E .distance u ∙ rw (le-ltb (near s) (over s) b, lt-leb noRepair (over s) f) (e ∙ far-same c men Q);
         }))
         (λ b.
         let (v, Y, e) = X .near (omega arith) in
         let Q = right G u refl refl (answers-down most up-distant X l Y e b) in
         record {
           letter = E .letter u ∙ rw (lt-ltb (near s) (over s) b) (letter-same Q);
-          distance = E .distance u ∙ rw (lt-ltb (near s) (over s) b) (e ∙ far-same men Q);
+          distance = E .distance u ∙ rw (lt-ltb (near s) (over s) b) (e ∙ far-same c men Q);
         })
 
-  -- and the largest distance less 1 is the grade
-  pub pairs-answered : {grade : ℕ} → n ≤ length letters → n ≤ length distances → grade ≡ maximum n (vec distances) - 1 →
-      PairsAnswered R p letters distances (record { grade = grade; rotations = groups .rotations })
+  -- and the largest of the distances, each less the man's own weight, is the grade
+  pub pairs-answered : {grade : ℕ} → n ≤ length letters → n ≤ length distances → grade ≡ maximum n (λ s. vec distances s - c s) →
+      PairsAnswered R c p letters distances (record { grade = grade; rotations = groups .rotations })
   pairs-answered l d e =
       record {
         letters-long = l;
         distances-long = d;
         at = λ u. answer-at u;
-        largest-cost = e
-            ∙ sym (maximum-less n (vec distances) 1)
-            ∙ maximum-same n (λ s. vec distances s - 1) (costs I men) (λ s u. ap (λ (d : ℕ). d - 1) (answer-at u .distance));
+        largest-cost = e ∙ maximum-same n (λ s. vec distances s - c s) (costs I c men) (λ s u. ap (λ (d : ℕ). d - c s) (answer-at u .distance));
         all-rotations = W .all-rotations;
       }

@@ -1,5 +1,5 @@
 -- What is measured for the one who answers for a group is measured for each of the group. Assumes nothing.
-use Prim.Native.Nat.{ℕ, _+_, _≤_, _<_}
+use Prim.Native.Nat.{ℕ, _≤_, _<_}
 use mathlib.Core.Path.{_≡_}
 use mathlib.Core.Logic.{⊎-elim}
 use native.Mathlib.Omega.{arith}
@@ -7,20 +7,20 @@ use borrow.Author.Tests.{lt-ltb, le-ltb}
 use Rattle.stable_theory.specs.Stable.Market.{Market}
 use Rattle.stable_theory.specs.Repairs.Repair.{IsDown, IsUp}
 use Rattle.rotation_pass.specs.Groups.{Grouped}
-use Rattle.nearest.specs.Tried.{Distant}
+use Rattle.nearest.specs.Tried.{noRepair, Distant}
 use Rattle.pair_measures.specs.Measured.{leadFar, Measured, Bounded, BothMeasured}
 
 -- What is measured for the one who answers for s holds of s: up to his bound, or exactly where nobody answers
-module _ {I : Market} {p : ℕ → ℕ} {n : ℕ} {Is : ℕ → (ℕ → ℕ) → Type 0} {lead stop far : ℕ → ℕ}
-    (G : Grouped n Is lead) (A : Measured I p n Is lead stop far) {s : ℕ} (u : s < n) where
+module _ {I : Market} {c p : ℕ → ℕ} {n : ℕ} {Is : ℕ → (ℕ → ℕ) → Type 0} {lead stop far : ℕ → ℕ}
+    (G : Grouped n Is lead) (A : Measured I c p n Is lead stop far) {s : ℕ} (u : s < n) where
   pub lead-distant :
       {C : Type 0} →
-      (lead s < n → Distant I (λ i. 1) p (Is s) (stop (lead s)) (leadFar n (lead s) far) → leadFar n (lead s) far ≤ stop (lead s) → C) →
-      (Distant I (λ i. 1) p (Is s) (n + 1) (leadFar n (lead s) far) → leadFar n (lead s) far ≡ n + 1 → C) → C
+      (lead s < n → Distant I c p (Is s) (stop (lead s)) (leadFar n (lead s) far) → leadFar n (lead s) far ≤ stop (lead s) → C) →
+      (Distant I c p (Is s) noRepair (leadFar n (lead s) far) → leadFar n (lead s) far ≡ noRepair → C) → C
   lead-distant led alone =
       ⊎-elim
       (λ N.
-      let e : leadFar n (lead s) far ≡ n + 1 = rw (le-ltb (lead s) n (omega (arith, N .none))) in
+      let e : leadFar n (lead s) far ≡ noRepair = rw (le-ltb (lead s) n (omega (arith, N .none))) in
       alone (record { near = λ z. absurd (omega arith); further = λ z d X. absurd (N .no-repair d X) }) e)
       (λ L.
       let e : leadFar n (lead s) far ≡ far (lead s) = rw (lt-ltb (lead s) n (L .low)) in
@@ -33,14 +33,14 @@ module _ {I : Market} {p : ℕ → ℕ} {n : ℕ} {Is : ℕ → (ℕ → ℕ) �
       (rw e (A .most (L .low) (L .own))))
       (G s u)
 
--- no distance up is over n + 1
-pub lead-most : {I : Market} {p : ℕ → ℕ} {n : ℕ} {Is : ℕ → (ℕ → ℕ) → Type 0} {lead far : ℕ → ℕ} →
-    Grouped n Is lead → Measured I p n Is lead (λ s. n + 1) far → {s : ℕ} → s < n → leadFar n (lead s) far ≤ n + 1
+-- no distance up is over `noRepair`
+pub lead-most : {I : Market} {c p : ℕ → ℕ} {n : ℕ} {Is : ℕ → (ℕ → ℕ) → Type 0} {lead far : ℕ → ℕ} →
+    Grouped n Is lead → Measured I c p n Is lead (λ s. noRepair) far → {s : ℕ} → s < n → leadFar n (lead s) far ≤ noRepair
 lead-most G A u = lead-distant G A u (λ l X m. m) (λ X e. omega arith)
 
 -- both repairs, measured one after the other
 pub both-measured :
-    {I : Market} {p : ℕ → ℕ} {n : ℕ} {down up above bound below : ℕ → ℕ} →
-    Measured I p n (IsUp I p) up (λ s. n + 1) above → Bounded n down up above n bound → Measured I p n (IsDown I p) down bound below →
-    BothMeasured I p n down up above below
+    {I : Market} {c p : ℕ → ℕ} {n : ℕ} {down up above bound below : ℕ → ℕ} →
+    Measured I c p n (IsUp I p) up (λ s. noRepair) above → Bounded n down up above n bound → Measured I c p n (IsDown I p) down bound below →
+    BothMeasured I c p n down up above below
 both-measured {bound = bound} A B C = record { bound = bound; ups = A; bounded = B; downs = C }

@@ -8,20 +8,20 @@ use lib.Seq.{getD-set-same, getD-set-other}
 use Rattle.laws.specs.Choice.{split, same}
 use Rattle.laws.specs.Values.{vec}
 use Rattle.stable_theory.specs.Stable.Market.{Market}
-use Rattle.nearest.specs.Tried.{Distant}
+use Rattle.nearest.specs.Tried.{noRepair, Distant}
 use Rattle.pair_measures.specs.Measured.{leadFar, Measured, Bounded, filledLetter, filledDistance, Filled}
 
 -- below k + 1 is below k, or k
 last : {C : Type 0} {s k : ℕ} → s < k + 1 → (s < k → C) → (s ≡ k → C) → C
 last {s = s} {k = k} u f g = split k s (λ l. g (omega arith)) f
 
-module _ {I : Market} {p : ℕ → ℕ} {Is : ℕ → (ℕ → ℕ) → Type 0} {lead stop : ℕ → ℕ} where
+module _ {I : Market} {c p : ℕ → ℕ} {Is : ℕ → (ℕ → ℕ) → Type 0} {lead stop : ℕ → ℕ} where
   -- before the first man
-  pub measured-start : {far : ℕ → ℕ} → Measured I p 0 Is lead stop far
+  pub measured-start : {far : ℕ → ℕ} → Measured I c p 0 Is lead stop far
   measured-start = record { distant = λ u e. absurd (omega arith); most = λ u e. absurd (omega arith) }
 
   -- past a man who does not answer for his group
-  pub measured-skip : {k : ℕ} {far : ℕ → ℕ} → Measured I p k Is lead stop far → (lead k ≡ k → ⊥) → Measured I p (k + 1) Is lead stop far
+  pub measured-skip : {k : ℕ} {far : ℕ → ℕ} → Measured I c p k Is lead stop far → (lead k ≡ k → ⊥) → Measured I c p (k + 1) Is lead stop far
   measured-skip A ne =
       record {
         distant = λ {s} u e. last u (λ l. A .distant l e) (λ q. absurd (ne (rw (← q) e)));
@@ -29,8 +29,8 @@ module _ {I : Market} {p : ℕ → ℕ} {Is : ℕ → (ℕ → ℕ) → Type 0} 
       }
 
   -- past one who does, measured as x
-  pub measured-on : {k x : ℕ} (far : List ℕ) → Measured I p k Is lead stop (vec far) → k < length far →
-      Distant I (λ i. 1) p (Is k) (stop k) x → x ≤ stop k → Measured I p (k + 1) Is lead stop (vec (set far k x))
+  pub measured-on : {k x : ℕ} (far : List ℕ) → Measured I c p k Is lead stop (vec far) → k < length far →
+      Distant I c p (Is k) (stop k) x → x ≤ stop k → Measured I c p (k + 1) Is lead stop (vec (set far k x))
   measured-on {k} {x} far A h X m =
       let here : vec (set far k x) k ≡ x = getD-set-same far k x 0 h in
       let other : (s : ℕ) → s < k → vec (set far k x) s ≡ vec far s = λ s l. getD-set-other far k s x 0 (λ z. omega arith) in
@@ -40,7 +40,7 @@ module _ {I : Market} {p : ℕ → ℕ} {Is : ℕ → (ℕ → ℕ) → Type 0} 
       }
 
   -- and all
-  pub measured-end : {k n : ℕ} {far : ℕ → ℕ} → Measured I p k Is lead stop far → n ≤ k → Measured I p n Is lead stop far
+  pub measured-end : {k n : ℕ} {far : ℕ → ℕ} → Measured I c p k Is lead stop far → n ≤ k → Measured I c p n Is lead stop far
   measured-end A l = record { distant = λ u e. A .distant (omega arith) e; most = λ u e. A .most (omega arith) e }
 
 module _ {n : ℕ} {down up above : ℕ → ℕ} where
@@ -62,7 +62,7 @@ module _ {n : ℕ} {down up above : ℕ → ℕ} where
 
     -- or it is raised
     pub bounded-on : (bound : List ℕ) → Bounded n down up above k (vec bound) → b < length bound →
-        x ≤ n + 1 → vec bound b < x → Bounded n down up above (k + 1) (vec (set bound b x))
+        x ≤ noRepair → vec bound b < x → Bounded n down up above (k + 1) (vec (set bound b x))
     bounded-on bound B h m g =
         let here : vec (set bound b x) b ≡ x = getD-set-same bound b x 0 h in
         let other : (v : ℕ) → (v ≡ b → ⊥) → vec (set bound b x) v ≡ vec bound v = λ v ne. getD-set-other bound b v x 0 ne in
@@ -86,7 +86,7 @@ module _ {n : ℕ} {down up below above : ℕ → ℕ} where
   -- one more man is filled in
   pub filled-on : {k l d : ℕ} (letters distances : List ℕ) → Filled n down up below above k (vec letters) (vec distances) →
       k < length letters → k < length distances →
-      l ≡ filledLetter n (leadFar n (up k) above) (leadFar n (down k) below) → d ≡ filledDistance n (leadFar n (up k) above) (leadFar n (down k) below) →
+      l ≡ filledLetter (leadFar n (up k) above) (leadFar n (down k) below) → d ≡ filledDistance (leadFar n (up k) above) (leadFar n (down k) below) →
       Filled n down up below above (k + 1) (vec (set letters k l)) (vec (set distances k d))
   filled-on {k} {l} {d} letters distances A g h e f =
       record {

@@ -1,56 +1,52 @@
--- How many proposers a vector moves from the places f, as places are changed one by one. Assumes nothing.
-use Prim.Native.Nat.{ℕ, zero, suc, _+_, _<_}
+-- The total weight of the proposers whom a vector moves from the places f, as places are changed one by one; c i is the
+-- weight of proposer i. Assumes nothing.
+use Prim.Native.Nat.{ℕ, _+_, _<_}
 use mathlib.Core.Path.{_≡_, refl}
 use native.Mathlib.Omega.{arith}
 use borrow.Author.Tests.{eq-eqb}
 use Rattle.laws.specs.Choice.{pick}
-use Rattle.laws.specs.Sum.{count}
-use Rattle.laws.specs.SumLaws.{sum-grown, sum-same}
-use Rattle.stable_theory.specs.Repairs.Repair.{moved}
+use Rattle.laws.specs.SumLaws.{sum-grown, sum-none}
+use Rattle.stable_theory.specs.Stable.Market.{Market}
+use Rattle.stable_theory.specs.Repairs.Repair.{moved, weight}
 use Rattle.stable_theory.specs.Repairs.Moves.{moved-moved}
 
--- 1 where p moves i, and otherwise 0
-tally : (ℕ → ℕ) → (ℕ → ℕ) → ℕ → ℕ
-tally f p i = pick (moved f p i) 1 0
+-- the weight of i where p moves him, and otherwise 0
+term : (ℕ → ℕ) → (ℕ → ℕ) → (ℕ → ℕ) → ℕ → ℕ
+term c f p i = pick (moved f p i) (c i) 0
 
-module _ (f p : ℕ → ℕ) {i : ℕ} where
-  tally-moved : (p i ≡ f i → ⊥) → tally f p i ≡ 1
-  unfolding tally
-  tally-moved ne = rw (moved-moved f p ne)
+module _ (c f p : ℕ → ℕ) {i : ℕ} where
+  term-moved : (p i ≡ f i → ⊥) → term c f p i ≡ c i
+  unfolding term
+  term-moved ne = rw (moved-moved f p ne)
 
-  tally-unmoved : p i ≡ f i → tally f p i ≡ 0
-  unfolding tally moved
-  tally-unmoved e = rw (eq-eqb (p i) (f i) e)
+  term-unmoved : p i ≡ f i → term c f p i ≡ 0
+  unfolding term moved
+  term-unmoved e = rw (eq-eqb (p i) (f i) e)
 
 -- equal places are moved or not alike
-tally-same : (f p r : ℕ → ℕ) {i : ℕ} → p i ≡ r i → tally f p i ≡ tally f r i
-unfolding tally moved
-tally-same f p r {i} e = rw e
-
--- vectors with the same places move as many
-pub moved-same : (n : ℕ) (f p r : ℕ → ℕ) → ((i : ℕ) → i < n → p i ≡ r i) → count n (moved f p) ≡ count n (moved f r)
-unfolding tally
-moved-same n f p r e = sum-same n (tally f p) (tally f r) (λ i u. tally-same f p r (e i u))
+term-same : (c f p r : ℕ → ℕ) {i : ℕ} → p i ≡ r i → term c f p i ≡ term c f r i
+unfolding term moved
+term-same c f p r {i} e = rw e
 
 -- a vector moves nobody from itself
-pub moved-none : (n : ℕ) (f : ℕ → ℕ) → count n (moved f f) ≡ 0
-unfolding tally
-moved-none zero f = refl
-moved-none (suc n) f = omega (arith, moved-none n f, tally-unmoved f f {i = n} refl)
+pub moved-none : (I : Market) (c f : ℕ → ℕ) → weight I c f f ≡ 0
+unfolding weight term
+moved-none I c f = sum-none (I .proposers .size) (term c f f) (λ i u. term-unmoved c f f {i = i} refl)
 
--- The place of c is changed to one other than that of f
-module _ {n : ℕ} (f p p′ : ℕ → ℕ) {c : ℕ} (u : c < n) (differs : p′ c ≡ f c → ⊥) (others : (l : ℕ) → (l ≡ c → ⊥) → p′ l ≡ p l) where
-  -- where he had not left his place, one more is moved
-  pub moved-more : p c ≡ f c → count n (moved f p′) ≡ count n (moved f p) + 1
-  unfolding tally
+-- The place of s is changed to one other than that of f
+module _ (I : Market) (c f p p′ : ℕ → ℕ) {s : ℕ} (u : s < I .proposers .size) (differs : p′ s ≡ f s → ⊥) (others : (l : ℕ) → (l ≡ s → ⊥) → p′ l ≡ p l) where
+  -- where he had not left his place, his weight is added
+  pub moved-more : p s ≡ f s → weight I c f p′ ≡ weight I c f p + c s
+  unfolding weight term
   moved-more e =
-      sum-grown n (tally f p) (tally f p′) c 1 u (omega (arith, tally-moved f p′ differs, tally-unmoved f p e))
-      (λ l m. tally-same f p′ p (others l m))
+      sum-grown (I .proposers .size) (term c f p) (term c f p′) s (c s) u
+      (omega (arith, term-moved c f p′ differs, term-unmoved c f p e))
+      (λ l m. term-same c f p′ p (others l m))
 
-  -- where he had, as many are
-  pub moved-again : (p c ≡ f c → ⊥) → count n (moved f p′) ≡ count n (moved f p)
-  unfolding tally
+  -- where he had, the total stays
+  pub moved-again : (p s ≡ f s → ⊥) → weight I c f p′ ≡ weight I c f p
+  unfolding weight term
   moved-again ne =
-      let e = sum-grown n (tally f p) (tally f p′) c 0 u (omega (arith, tally-moved f p′ differs, tally-moved f p ne))
-      (λ l m. tally-same f p′ p (others l m)) in
+      let e = sum-grown (I .proposers .size) (term c f p) (term c f p′) s 0 u (omega (arith, term-moved c f p′ differs, term-moved c f p ne))
+      (λ l m. term-same c f p′ p (others l m)) in
       omega arith

@@ -23,8 +23,9 @@ use Rattle.stability.specs.Laws.Judged.{BookJudged}
 use Rattle.extremes.specs.Places.{MatchingWritable, womenAt}
 use Rattle.extremes.specs.Laws.ExtremeBytes.{places-writable}
 use Rattle.repairs.specs.declared.answer.Answer.{Answer}
+use Rattle.repairs.specs.Weights.{weightOf, checkWeighed}
 use Rattle.repairs.specs.Repair.{fixed, answerFor, repairOutcome}
-use Rattle.repairs.specs.Request.{askingMan, checkAsked, checkRequest}
+use Rattle.repairs.specs.Request.{askingMan, checkAsked, checkWeightedRequest}
 use Rattle.repairs.specs.Laws.RepairBytes.{holds}
 use Rattle.nearest.specs.declared.answer.Nearest.{Nearest}
 use Rattle.nearest.specs.Nearest.{Shows, ShowsFor}
@@ -33,10 +34,10 @@ use Rattle.repair_answer.specs.Shown.{Small, gainsAt, shownAnswer, shownIn}
 use Rattle.repair.specs.Repaired.{Repaired}
 use Rattle.repair.specs.Laws.Shown.{places-stable, after-stable, says-answer, says-bytes, says-gains}
 
-module _ {b m q out : List ℕ} {gains : List ℤ} where
+module _ {b m k q out : List ℕ} {gains : List ℤ} where
   -- a refusal leaves both buffers as they were
-  repaired-refused : {r : Answer} {v : Verdict} {number place second : ℕ} → checkRequest b m q (length out) (length gains) ≡ v →
-      v ≡ refused number place second → repairOutcome r ≡ after v fixed → Repaired b m q out gains r out gains
+  repaired-refused : {r : Answer} {v : Verdict} {number place second : ℕ} → checkWeightedRequest b m k q (length out) (length gains) ≡ v →
+      v ≡ refused number place second → repairOutcome r ≡ after v fixed → Repaired b m k q out gains r out gains
   repaired-refused w e f =
       record {
         reply = after-refused (w ∙ e) _ (f ∙ ap (λ (v : Verdict). after v fixed) e);
@@ -44,43 +45,44 @@ module _ {b m q out : List ℕ} {gains : List ℤ} where
         places = filled-refused (w ∙ e) _ _ gains;
       }
 
-  -- what the check of the matching refuses is refused
-  pub matching-refused : {r : Answer} {v : Verdict} {number place second : ℕ} → v ≡ checkMatching b m →
-      v ≡ refused number place second → repairOutcome r ≡ after v fixed → Repaired b m q out gains r out gains
+  -- what the check of the matching and the weights refuses is refused
+  pub matching-refused : {r : Answer} {v : Verdict} {number place second : ℕ} → v ≡ checkWeighed b m k →
+      v ≡ refused number place second → repairOutcome r ≡ after v fixed → Repaired b m k q out gains r out gains
   matching-refused w e f =
       let c = ap (λ (v : Verdict). andThen v (checkAsked (people b) m q (length out) (length gains))) (sym w ∙ e) in
       repaired-refused (c ∙ sym e) e f
 
-module _ {b m : List ℕ} {R : Record} {j : Judged} (J : BookJudged b m R j) (f : checkMatching b m ≡ fine) where
-  -- the given places fit a signed byte
-  pub given-small : Small (R .n) (j .places .men)
-  given-small =
-      let G = judged-given J f in
-      record {
-        long = omega (arith, J .judged .men .long, G .few);
-        small = λ u. omega (arith, G .placed u, G .by-men .proposers .short u, G .few);
-      }
+-- the given places fit a signed byte
+pub given-small : {b m : List ℕ} {R : Record} {j : Judged} → BookJudged b m R j → checkMatching b m ≡ fine → Small (R .n) (j .places .men)
+given-small J f =
+    let G = judged-given J f in
+    record {
+      long = omega (arith, J .judged .men .long, G .few);
+      small = λ u. omega (arith, G .placed u, G .by-men .proposers .short u, G .few);
+    }
 
-  -- where the matching is not refused the rules of the request follow
-  follows : (q : List ℕ) (room gainsRoom : ℕ) → checkRequest b m q room gainsRoom ≡ checkAsked (R .n) m q room gainsRoom
+-- A matching and weights that are not refused
+module _ {b m : List ℕ} (k : List ℕ) {R : Record} {j : Judged} (J : BookJudged b m R j) (f : checkMatching b m ≡ fine) (g : checkWeighed b m k ≡ fine) where
+  -- the rules of the request follow
+  follows : (q : List ℕ) (room gainsRoom : ℕ) → checkWeightedRequest b m k q room gainsRoom ≡ checkAsked (R .n) m q room gainsRoom
   follows q room gainsRoom =
-      goes-on (checkMatching b m) (checkAsked (people b) m q room gainsRoom) f
+      goes-on (checkWeighed b m k) (checkAsked (people b) m q room gainsRoom) g
       ∙ ap (λ (n : ℕ). checkAsked n m q room gainsRoom) (sym (judged-number J f))
 
   pub request-refused : {q out : List ℕ} {gains : List ℤ} {r : Answer} {v : Verdict} {number place second : ℕ} →
       v ≡ checkAsked (R .n) m q (length out) (length gains) →
-      v ≡ refused number place second → repairOutcome r ≡ after v fixed → Repaired b m q out gains r out gains
-  request-refused {q} {out} {gains} w e g = repaired-refused (follows q (length out) (length gains) ∙ sym w) e g
+      v ≡ refused number place second → repairOutcome r ≡ after v fixed → Repaired b m k q out gains r out gains
+  request-refused {q} {out} {gains} w e h = repaired-refused (follows q (length out) (length gains) ∙ sym w) e h
 
-  module _ {s : ℕ} (u : s < R .n) {r : Nearest} (S : ShowsFor R (vec (j .places .men)) s r) where
+  module _ {s : ℕ} (u : s < R .n) {r : Nearest} (S : ShowsFor R (weightOf k) (vec (j .places .men)) s r) where
     -- the search found the answer for the bytes
-    answers : Answers (market b) (λ i. 1) (vectorOf b m) s (answerFor b m s)
+    answers : Answers (market b) (weightOf k) (vectorOf b m) s (answerFor b (weightOf k) m s)
     answers =
-        answer-of (market-proper (judged-formed J f)) (λ i. 1) (fine-vector b m f)
+        answer-of (market-proper (judged-formed J f)) (weightOf k) (fine-vector b m f)
         (holds (fine-stable b m .0 f) (omega (arith, judged-number J f)))
 
-    found : Shows (market b) (vectorOf b m) (answerFor b m s) r
-    found = shows-book J f u S
+    found : Shows (market b) (weightOf k) (vectorOf b m) (answerFor b (weightOf k) m s) r
+    found = shows-book J f (weightOf k) u S
 
     -- which can be written
     pub found-writable : {out : List ℕ} → R .n ≤ length out → MatchingWritable (R .n) (R .mlists) (r .men) out
@@ -93,11 +95,11 @@ module _ {b m : List ℕ} {R : Record} {j : Judged} (J : BookJudged b m R j) (f 
         {a : Answer} {out′ : List ℕ} {gains′ : List ℤ} → repairOutcome a ≡ gives (shownAnswer (r .letter) (r .distance)) →
         out′ ≡ shownIn (r .letter) (R .n) (womenAt (R .n) (R .mlists) (vec (r .men))) out →
         gains′ ≡ shownIn (r .letter) (R .n) (gainsAt (R .n) (vec (j .places .men)) (vec (r .men))) gains →
-        Repaired b m q out gains a out′ gains′
-    returns-found {q} {out} {gains} k e x y z =
+        Repaired b m k q out gains a out′ gains′
+    returns-found {q} {out} {gains} a e x y z =
         let c = follows q (length out) (length gains) ∙ e in
         record {
-          reply = after-fine c (rw (← k) (says-answer J f answers found)) x;
-          bytes = filled-fine c _ _ out (rw (← k) (y ∙ says-bytes J f answers found out));
-          places = filled-fine c _ _ gains (rw (← k) (z ∙ says-gains J f answers found gains));
+          reply = after-fine c (rw (← a) (says-answer J f answers found)) x;
+          bytes = filled-fine c _ _ out (rw (← a) (y ∙ says-bytes J f answers found out));
+          places = filled-fine c _ _ gains (rw (← a) (z ∙ says-gains J f answers found gains));
         }

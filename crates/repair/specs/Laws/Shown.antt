@@ -65,30 +65,30 @@ module _ {b m : List ℕ} {R : Record} {j : Judged} (J : BookJudged b m R j) (f 
     gains-after gains = ap₂ (λ (l : List ℤ) (n : ℕ). l ++ drop n gains) gains-of (judged-number J f)
 
   -- the vector after a right answer is stable
-  pub after-stable : {s : ℕ} {a : Answer} → Answers (market b) (λ i. 1) (vectorOf b m) s a →
+  pub after-stable : {c : ℕ → ℕ} {s : ℕ} {a : Answer} → Answers (market b) c (vectorOf b m) s a →
       Stable (market b) (vectorAfter (vectorOf b m) a)
   after-stable (nearer-up K g) = K .parts .stable
   after-stable (nearer-down K g) = K .parts .stable
   after-stable (neither k g) = fine-vector b m f
 
   -- the answer that is shown, the bytes and the gains are the definitions'
-  pub says-answer : {s : ℕ} {a : Answer} {r : Nearest} →
-      Answers (market b) (λ i. 1) (vectorOf b m) s a → Shows (market b) (vectorOf b m) a r →
-      shownAnswer (r .letter) (r .distance) ≡ withDistance b m a
-  says-answer (nearer-up K g) S = rw (S .letter) (ap up (S .distance ∙ sym (moved-vector inside (K .parts .stable))))
-  says-answer (nearer-down K g) S = rw (S .letter) (ap down (S .distance ∙ sym (moved-vector inside (K .parts .stable))))
+  pub says-answer : {c : ℕ → ℕ} {s : ℕ} {a : Answer} {r : Nearest} →
+      Answers (market b) c (vectorOf b m) s a → Shows (market b) c (vectorOf b m) a r →
+      shownAnswer (r .letter) (r .distance) ≡ withDistance b c m a
+  says-answer {c} (nearer-up K g) S = rw (S .letter) (ap up (S .distance ∙ sym (moved-vector inside c (K .parts .stable))))
+  says-answer {c} (nearer-down K g) S = rw (S .letter) (ap down (S .distance ∙ sym (moved-vector inside c (K .parts .stable))))
   says-answer (neither k g) S = rw (S .letter)
 
-  pub says-bytes : {s : ℕ} {a : Answer} {r : Nearest} →
-      Answers (market b) (λ i. 1) (vectorOf b m) s a → Shows (market b) (vectorOf b m) a r → (out : List ℕ) →
+  pub says-bytes : {c : ℕ → ℕ} {s : ℕ} {a : Answer} {r : Nearest} →
+      Answers (market b) c (vectorOf b m) s a → Shows (market b) c (vectorOf b m) a r → (out : List ℕ) →
       shownIn (r .letter) (R .n) (womenAt (R .n) (R .mlists) (vec (r .men))) out
       ≡ filled fine (entriesFor b a) (matchingFor b a) out
   says-bytes (nearer-up K g) S out = rw (S .letter) (bytes-after (K .parts .stable) (S .places) out)
   says-bytes (nearer-down K g) S out = rw (S .letter) (bytes-after (K .parts .stable) (S .places) out)
   says-bytes (neither k g) S out = rw (S .letter)
 
-  pub says-gains : {s : ℕ} {a : Answer} {r : Nearest} →
-      Answers (market b) (λ i. 1) (vectorOf b m) s a → Shows (market b) (vectorOf b m) a r → (gains : List ℤ) →
+  pub says-gains : {c : ℕ → ℕ} {s : ℕ} {a : Answer} {r : Nearest} →
+      Answers (market b) c (vectorOf b m) s a → Shows (market b) c (vectorOf b m) a r → (gains : List ℤ) →
       shownIn (r .letter) (R .n) (gainsAt (R .n) (vec (j .places .men)) (vec (r .men))) gains
       ≡ filled fine (entriesFor b a) (gainsFor b m a) gains
   says-gains (nearer-up K g) S gains = rw (S .letter) (gains-after (K .parts .stable) (S .places) gains)

@@ -1,5 +1,5 @@
 -- The answer of a book and a matching, of bytes: it is fixed exactly where every stable matching holds the pair, and
--- otherwise the repair that document 01 takes, which moves fewest. Assumes nothing.
+-- otherwise the repair that document 01 takes, and none weighs less. Assumes nothing.
 use Prim.Native.Nat.{ℕ, _<_}
 use mathlib.Core.Path.{_≡_, refl, sym, _∙_}
 use mathlib.Core.List.{List, _++_}
@@ -20,10 +20,11 @@ use Rattle.matchings.specs.Matching.{vectorOf, StableIn}
 use Rattle.matchings.specs.Extreme.{matchingOf}
 use Rattle.matchings.specs.Laws.StableCheck.{fine-stable}
 use Rattle.matchings.specs.Laws.StableVector.{matching-of, vector-stable, fine-vector, vector-fine, vector-back}
-use Rattle.repairs.specs.Repair.{movedCount, fixed, withDistance, entriesFor, matchingFor}
-use Rattle.repairs.specs.Laws.Bytes.{same-woman, moved-count, moved-vector}
+use Rattle.repairs.specs.Weights.{movedWeight}
+use Rattle.repairs.specs.Repair.{fixed, withDistance, entriesFor, matchingFor}
+use Rattle.repairs.specs.Laws.Bytes.{same-woman, moved-weight, moved-vector}
 use Rattle.repairs.specs.Laws.RepairBytes.{RepairAt, holds, without-parts, repair-bytes, repair-vector}
-use Rattle.repairs.specs.Promise.{InEvery, Without, NoWorse, NoBetter, Takes, takes-up, takes-down, Fewest}
+use Rattle.repairs.specs.Promise.{InEvery, Without, NoWorse, NoBetter, Takes, takes-up, takes-down, Lightest}
 
 -- the n bytes that are written are the matching
 pub written-bytes : (b : List ℕ) (v : ℕ → ℕ) (out : List ℕ) → take (people b) (matchingOf b v ++ drop (people b) out) ≡ matchingOf b v
@@ -51,37 +52,38 @@ module _ {b m : List ℕ} (S : StableIn b m) {s : ℕ} (l : s < people b) where
   pub fixed-every : Fixed (market b) (vectorOf b m) s → InEvery b m s
   fixed-every K k e = same-woman (S .matching) (fine-stable b k .0 e .matching) l .1 (K (vectorOf b k) (fine-vector b k e))
 
-  -- the distances of bytes are the weights of vectors
-  far : {v : ℕ → ℕ} → Parts (market b) (vectorOf b m) s v → movedCount (people b) m (matchingOf b v) ≡ weight (market b) (λ i. 1) (vectorOf b m) v
-  far K = moved-vector (S .matching) (K .stable)
+  module _ (c : ℕ → ℕ) where
+    -- the distances of bytes are the weights of vectors
+    far : {v : ℕ → ℕ} → Parts (market b) (vectorOf b m) s v → movedWeight (people b) c m (matchingOf b v) ≡ weight (market b) c (vectorOf b m) v
+    far K = moved-vector (S .matching) c (K .stable)
 
-  far-bytes : (k : List ℕ) → Without b m s k → movedCount (people b) m k ≡ weight (market b) (λ i. 1) (vectorOf b m) (vectorOf b k)
-  far-bytes k K = moved-count (S .matching) (fine-stable b k .0 (K .stable) .matching)
+    far-bytes : (k : List ℕ) → Without b m s k → movedWeight (people b) c m k ≡ weight (market b) c (vectorOf b m) (vectorOf b k)
+    far-bytes k K = moved-weight (S .matching) (fine-stable b k .0 (K .stable) .matching) c
 
-  -- what no vector undercuts no matching does
-  fewest : {v : ℕ → ℕ} → Nearest (market b) (λ i. 1) (vectorOf b m) s v → Fewest b m s (matchingOf b v)
-  fewest N k K = omega (arith, far (N .parts), far-bytes k K, N .nearest (without-parts S l k K))
+    -- what no vector undercuts no matching does
+    lightest : {v : ℕ → ℕ} → Nearest (market b) c (vectorOf b m) s v → Lightest b c m s (matchingOf b v)
+    lightest N k K = omega (arith, far (N .parts), far-bytes k K, N .nearest (without-parts S l k K))
 
-  -- the reply is fixed exactly where every stable matching holds the pair
-  pub reply-fixed : {a : Answer} → Answers (market b) (λ i. 1) (vectorOf b m) s a → withDistance b m a ≡ fixed ↔ InEvery b m s
-  reply-fixed (nearer-up K f) =
-      (λ e. let z : _≡_ {A = ℕ} 0 1 = cc in absurd (omega arith), λ E. absurd (K .parts .without (every-fixed E _ (K .parts .stable))))
-  reply-fixed (nearer-down K f) =
-      (λ e. let z : _≡_ {A = ℕ} 0 1 = cc in absurd (omega arith), λ E. absurd (K .parts .without (every-fixed E _ (K .parts .stable))))
-  reply-fixed (neither n k) = (λ e. fixed-every (answer-right (market-proper (S .matching .formed)) (λ i. 1) (vector-stable S) (holds S l) (neither n k)), λ E. refl)
+    -- the reply is fixed exactly where every stable matching holds the pair
+    pub reply-fixed : {a : Answer} → Answers (market b) c (vectorOf b m) s a → withDistance b c m a ≡ fixed ↔ InEvery b m s
+    reply-fixed (nearer-up K f) =
+        (λ e. let z : _≡_ {A = ℕ} 0 1 = cc in absurd (omega arith), λ E. absurd (K .parts .without (every-fixed E _ (K .parts .stable))))
+    reply-fixed (nearer-down K f) =
+        (λ e. let z : _≡_ {A = ℕ} 0 1 = cc in absurd (omega arith), λ E. absurd (K .parts .without (every-fixed E _ (K .parts .stable))))
+    reply-fixed (neither n k) = (λ e. fixed-every (answer-right (market-proper (S .matching .formed)) c (vector-stable S) (holds S l) (neither n k)), λ E. refl)
 
-  -- and else it is the repair that document 01 takes, which moves fewest
-  pub reply-takes : (out : List ℕ) {a : Answer} → Answers (market b) (λ i. 1) (vectorOf b m) s a → (InEvery b m s → ⊥) →
-      Takes b m s (take (people b) (filled fine (entriesFor b a) (matchingFor b a) out)) (gives (withDistance b m a))
-      × Fewest b m s (take (people b) (filled fine (entriesFor b a) (matchingFor b a) out))
-  reply-takes out (nearer-up {u} K f) n =
-      rw (written-bytes b u out) (
-        takes-up (repair-bytes S l (up-at K)) (λ d X. omega (arith, far (K .parts), far-bytes d (X .parts), f (vectorOf b d) (at-down (repair-vector S l d X)))),
-        fewest (answer-right (market-proper (S .matching .formed)) (λ i. 1) (vector-stable S) (holds S l) (nearer-up K f)),
-      )
-  reply-takes out (nearer-down {d} K f) n =
-      rw (written-bytes b d out) (
-        takes-down (repair-bytes S l (down-at K)) (λ u X. omega (arith, far (K .parts), far-bytes u (X .parts), f (vectorOf b u) (at-up (repair-vector S l u X)))),
-        fewest (answer-right (market-proper (S .matching .formed)) (λ i. 1) (vector-stable S) (holds S l) (nearer-down K f)),
-      )
-  reply-takes out (neither k j) n = absurd (n (reply-fixed (neither k j) .0 refl))
+    -- and else it is the repair that document 01 takes, and none weighs less
+    pub reply-takes : (out : List ℕ) {a : Answer} → Answers (market b) c (vectorOf b m) s a → (InEvery b m s → ⊥) →
+        Takes b c m s (take (people b) (filled fine (entriesFor b a) (matchingFor b a) out)) (gives (withDistance b c m a))
+        × Lightest b c m s (take (people b) (filled fine (entriesFor b a) (matchingFor b a) out))
+    reply-takes out (nearer-up {u} K f) n =
+        rw (written-bytes b u out) (
+          takes-up (repair-bytes S l (up-at K)) (λ d X. omega (arith, far (K .parts), far-bytes d (X .parts), f (vectorOf b d) (at-down (repair-vector S l d X)))),
+          lightest (answer-right (market-proper (S .matching .formed)) c (vector-stable S) (holds S l) (nearer-up K f)),
+        )
+    reply-takes out (nearer-down {d} K f) n =
+        rw (written-bytes b d out) (
+          takes-down (repair-bytes S l (down-at K)) (λ u X. omega (arith, far (K .parts), far-bytes u (X .parts), f (vectorOf b u) (at-up (repair-vector S l u X)))),
+          lightest (answer-right (market-proper (S .matching .formed)) c (vector-stable S) (holds S l) (nearer-down K f)),
+        )
+    reply-takes out (neither k j) n = absurd (n (reply-fixed (neither k j) .0 refl))

@@ -1,5 +1,5 @@
 -- Bytes and place vectors of stable matchings of a book: two students' mentors agree exactly where the places do, so
--- the distance in bytes is the number of moved places, and the places gained are read off the vectors. Assumes
+-- the distance in bytes is the weight of the moved places, and the places gained are read off the vectors. Assumes
 -- nothing.
 use Prim.Native.Nat.{ℕ, _<_, min}
 use mathlib.Core.Path.{_≡_, sym, _∙_, ap}
@@ -21,7 +21,7 @@ use Rattle.matchings.specs.BookMarket.{market, market-proper}
 use Rattle.matchings.specs.Matching.{manRank, vectorOf, MatchingIn, womanOf}
 use Rattle.matchings.specs.Extreme.{matchingOf}
 use Rattle.matchings.specs.Laws.StableVector.{matching-in, matching-of, vector-back}
-use Rattle.repairs.specs.Repair.{movedCount}
+use Rattle.repairs.specs.Weights.{movedWeight}
 
 -- the place of a student's mentor
 pub place-of : {b m : List ℕ} → MatchingIn b m → {i : ℕ} → i < people b → vectorOf b m i ≡ manRank b i (womanOf m i)
@@ -43,19 +43,19 @@ module _ {b m k : List ℕ} (A : MatchingIn b m) (B : MatchingIn b k) where
       ap not (same (womanOf k i) (womanOf m i) (λ e. eq-eqb _ _ e ∙ sym (eq-eqb _ _ (same-woman u .0 e)))
       (λ n. ne-eqb _ _ n ∙ sym (ne-eqb _ _ (λ e. n (same-woman u .1 e)))))
 
-  -- and the distance is the number of moved places
-  pub moved-count : movedCount (people b) m k ≡ weight (market b) (λ i. 1) (vectorOf b m) (vectorOf b k)
+  -- and the distance is the total weight of the moved places
+  pub moved-weight : (c : ℕ → ℕ) → movedWeight (people b) c m k ≡ weight (market b) c (vectorOf b m) (vectorOf b k)
   unfolding market weight
-  moved-count =
-      sum-same (people b) (λ i. pick (not (eqb (womanOf k i) (womanOf m i))) 1 0) (λ i. pick (moved (vectorOf b m) (vectorOf b k) i) 1 0)
-      (λ i u. ap (λ (t : Bool). pick {A = ℕ} t 1 0) (moved-woman u))
+  moved-weight c =
+      sum-same (people b) (λ i. pick (not (eqb (womanOf k i) (womanOf m i))) (c i) 0) (λ i. pick (moved (vectorOf b m) (vectorOf b k) i) (c i) 0)
+      (λ i u. ap (λ (t : Bool). pick t (c i) 0) (moved-woman u))
 
 -- the same of the matching of a stable vector
-pub moved-vector : {b m : List ℕ} → MatchingIn b m → {v : ℕ → ℕ} → Stable (market b) v → movedCount (people b) m (matchingOf b v) ≡ weight (market b) (λ i. 1) (vectorOf b m) v
+pub moved-vector : {b m : List ℕ} → MatchingIn b m → (c : ℕ → ℕ) {v : ℕ → ℕ} → Stable (market b) v → movedWeight (people b) c m (matchingOf b v) ≡ weight (market b) c (vectorOf b m) v
 unfolding market
-moved-vector {b} {m} A {v} S =
+moved-vector {b} {m} A c {v} S =
     let W = A .formed in
-    moved-count A (matching-of W S) ∙ weight-same (market b) (λ i. 1) (vectorOf b m) (vectorOf b (matchingOf b v)) v (λ i u. vector-back W S u)
+    moved-weight A (matching-of W S) c ∙ weight-same (market b) c (vectorOf b m) (vectorOf b (matchingOf b v)) v (λ i u. vector-back W S u)
 
 -- the place of a student's mentor in it is that of the vector
 pub vector-place : {b : List ℕ} (W : WellFormed b) {v : ℕ → ℕ} (S : Stable (market b) v) {i : ℕ} → i < people b → manRank b i (womanOf (matchingOf b v) i) ≡ v i

@@ -43,10 +43,10 @@ module _ {b m : List ℕ} (S : StableIn b m) where
       }
 
   -- what an answer that is not fixed writes
-  pub reply-gains : {s : ℕ} (l : s < people b) (out : List ℕ) (gains : List ℤ) {a : Answer} → Answers (market b) (λ i. 1) (vectorOf b m) s a → (InEvery b m s → ⊥) →
+  pub reply-gains : {s : ℕ} (l : s < people b) (out : List ℕ) (gains : List ℤ) (c : ℕ → ℕ) {a : Answer} → Answers (market b) c (vectorOf b m) s a → (InEvery b m s → ⊥) →
       Gained b m (take (people b) (filled fine (entriesFor b a) (matchingFor b a) out)) (filled fine (entriesFor b a) (gainsFor b m a) gains)
-  reply-gains l out gains (nearer-up {u} K f) n =
+  reply-gains l out gains c (nearer-up {u} K f) n =
       rw (written-bytes b u out) (gained (matching-of (S .matching .formed) (K .parts .stable)) (λ i v. refilled-at (pos 0) _ gains v))
-  reply-gains l out gains (nearer-down {d} K f) n =
+  reply-gains l out gains c (nearer-down {d} K f) n =
       rw (written-bytes b d out) (gained (matching-of (S .matching .formed) (K .parts .stable)) (λ i v. refilled-at (pos 0) _ gains v))
-  reply-gains l out gains (neither k j) n = absurd (n (reply-fixed S l (neither k j) .0 refl))
+  reply-gains l out gains c (neither k j) n = absurd (n (reply-fixed S l c (neither k j) .0 refl))

@@ -8,8 +8,8 @@ use native.Mathlib.Omega.{arith}
 use lib.Dec.{eqb}
 use Rattle.laws.specs.Choice.{pick, both}
 use Rattle.laws.specs.SumLaws.{sum-same}
-use Rattle.format.specs.Verdict.{fine}
-use Rattle.format.specs.Outcome.{gives}
+use Rattle.format.specs.Verdict.{Verdict, fine}
+use Rattle.format.specs.Outcome.{gives, after}
 use Rattle.format.specs.Laws.Outcome.{after-fine}
 use Rattle.format.specs.Format.{people}
 use Rattle.stable_theory.specs.Repairs.Repair.{moved}
@@ -20,40 +20,40 @@ use Rattle.matchings.specs.Matching.{vectorOf, checkMatching, MatchingIn, Stabl
 use Rattle.matchings.specs.Extreme.{matchingOf}
 use Rattle.matchings.specs.Laws.StableCheck.{fine-stable}
 use Rattle.matchings.specs.Laws.StableVector.{matching-of, vector-stable, vector-back}
-use Rattle.repairs.specs.Grade.{gradeOf, gradeReply}
+use Rattle.repairs.specs.Grade.{gradeOf}
 use Rattle.repairs.specs.Laws.Bytes.{moved-woman}
 use Rattle.repairs.specs.Laws.RepairBytes.{holds, parts-without, without-parts}
 use Rattle.repairs.specs.Laws.AnswerBytes.{every-fixed, fixed-every}
 use Rattle.repairs.specs.Promise.{movedBesides, Covers}
 
--- how many are moved besides s is the same of bytes and of places
-moved-besides : {b m k : List ℕ} → MatchingIn b m → MatchingIn b k → (s : ℕ) → movedBesides (people b) m k s ≡ besides (market b) (λ i. 1) (vectorOf b m) s (vectorOf b k)
+-- what those moved besides s weigh is the same of bytes and of places
+moved-besides : {b m k : List ℕ} → MatchingIn b m → MatchingIn b k → (c : ℕ → ℕ) (s : ℕ) → movedBesides (people b) c m k s ≡ besides (market b) c (vectorOf b m) s (vectorOf b k)
 unfolding market besides
-moved-besides {b} {m} {k} A B s =
-    sum-same (people b) (λ i. pick (both (not (eqb i s)) (not (eqb (womanOf k i) (womanOf m i)))) 1 0) (λ i. pick (both (not (eqb i s)) (moved (vectorOf b m) (vectorOf b k) i)) 1 0)
-    (λ i u. ap (λ (t : Bool). pick {A = ℕ} (both (not (eqb i s)) t) 1 0) (moved-woman A B u))
+moved-besides {b} {m} {k} A B c s =
+    sum-same (people b) (λ i. pick (both (not (eqb i s)) (not (eqb (womanOf k i) (womanOf m i)))) (c i) 0) (λ i. pick (both (not (eqb i s)) (moved (vectorOf b m) (vectorOf b k) i)) (c i) 0)
+    (λ i u. ap (λ (t : Bool). pick (both (not (eqb i s)) t) (c i) 0) (moved-woman A B u))
 
 -- and depends on the places alone
-besides-same : (b m : List ℕ) (s : ℕ) (k r : ℕ → ℕ) → ((i : ℕ) → i < people b → k i ≡ r i) → besides (market b) (λ i. 1) (vectorOf b m) s k ≡ besides (market b) (λ i. 1) (vectorOf b m) s r
+besides-same : (b : List ℕ) (c : ℕ → ℕ) (m : List ℕ) (s : ℕ) (k r : ℕ → ℕ) → ((i : ℕ) → i < people b → k i ≡ r i) → besides (market b) c (vectorOf b m) s k ≡ besides (market b) c (vectorOf b m) s r
 unfolding market besides moved
-besides-same b m s k r e =
-    sum-same (people b) (λ i. pick (both (not (eqb i s)) (moved (vectorOf b m) k i)) 1 0) (λ i. pick (both (not (eqb i s)) (moved (vectorOf b m) r i)) 1 0)
+besides-same b c m s k r e =
+    sum-same (people b) (λ i. pick (both (not (eqb i s)) (moved (vectorOf b m) k i)) (c i) 0) (λ i. pick (both (not (eqb i s)) (moved (vectorOf b m) r i)) (c i) 0)
     (λ i u. rw (e i u))
 
-module _ {b m : List ℕ} (S : StableIn b m) {g : ℕ} where
+module _ {b m : List ℕ} (S : StableIn b m) {c : ℕ → ℕ} {g : ℕ} where
   -- a number that covers the pairs does so of vectors
-  covers-robust : Covers b m g → Robust (market b) (λ i. 1) (vectorOf b m) g
+  covers-robust : Covers b c m g → Robust (market b) c (vectorOf b m) g
   unfolding market
   covers-robust C =
       record {
         robust = λ {s} h n.
             let l = h .pair .proposer in
-            let c = C .covers s l (λ E. n (every-fixed S l E)) in
-            (vectorOf b (c .0), without-parts S l (c .0) (c .1), omega (arith, c .2, moved-besides (S .matching) (fine-stable b (c .0) .0 (c .1 .stable) .matching) s));
+            let k = C .covers s l (λ E. n (every-fixed S l E)) in
+            (vectorOf b (k .0), without-parts S l (k .0) (k .1), omega (arith, k .2, moved-besides (S .matching) (fine-stable b (k .0) .0 (k .1 .stable) .matching) c s));
       }
 
   -- and back
-  robust-covers : Robust (market b) (λ i. 1) (vectorOf b m) g → Covers b m g
+  robust-covers : Robust (market b) c (vectorOf b m) g → Covers b c m g
   robust-covers R =
       record {
         covers = λ s l n.
@@ -62,21 +62,23 @@ module _ {b m : List ℕ} (S : StableIn b m) {g : ℕ} where
             let K = r .1 .stable in (
               matchingOf b (r .0),
               parts-without S l (r .1),
-              omega (arith, r .2, moved-besides (S .matching) (matching-of W K) s, besides-same b m s (vectorOf b (matchingOf b (r .0))) (r .0) (λ i u. vector-back W K u)),
+              omega (arith, r .2, moved-besides (S .matching) (matching-of W K) c s, besides-same b c m s (vectorOf b (matchingOf b (r .0))) (r .0) (λ i u. vector-back W K u)),
             );
       }
 
-module _ {b m : List ℕ} (S : StableIn b m) where
+module _ {b m : List ℕ} (S : StableIn b m) (c : ℕ → ℕ) where
   -- the grade covers every pair that is not fixed
-  pub grade-covers : Covers b m (gradeOf b m)
-  grade-covers = robust-covers S (supermatch (market-proper (S .matching .formed)) (λ i. 1) (vector-stable S))
+  pub grade-covers : Covers b c m (gradeOf b c m)
+  grade-covers = robust-covers S (supermatch (market-proper (S .matching .formed)) c (vector-stable S))
 
   -- and is the least number that does
-  pub grade-least : (g : ℕ) → Covers b m g → gradeOf b m ≤ g
-  grade-least g C = supermatch-least (market-proper (S .matching .formed)) (λ i. 1) (vector-stable S) (covers-robust S C)
+  pub grade-least : (g : ℕ) → Covers b c m g → gradeOf b c m ≤ g
+  grade-least g C = supermatch-least (market-proper (S .matching .formed)) c (vector-stable S) (covers-robust S C)
 
 -- and the reply gives it
-pub grade-is : (b m : List ℕ) → checkMatching b m ≡ fine → (g : ℕ) × (gradeReply b m ≡ gives g) × Covers b m g × ((h : ℕ) → Covers b m h → g ≤ h)
-grade-is b m f =
+pub grade-is :
+    (b : List ℕ) (c : ℕ → ℕ) (m : List ℕ) → checkMatching b m ≡ fine → {v : Verdict} → v ≡ fine →
+    (g : ℕ) × (after v (gradeOf b c m) ≡ gives g) × Covers b c m g × ((h : ℕ) → Covers b c m h → g ≤ h)
+grade-is b c m f e =
     let S = fine-stable b m .0 f in
-    (gradeOf b m, sym (after-fine f refl refl), grade-covers S, grade-least S)
+    (gradeOf b c m, sym (after-fine e refl refl), grade-covers S c, grade-least S c)

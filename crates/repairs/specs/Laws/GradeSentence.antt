@@ -1,29 +1,28 @@
--- The grade in document 01's own sentence: the largest distance of an answer, less 1, over the pairs that are not
--- fixed, and 0 if all are fixed. Assumes nothing.
+-- The grade in the papers' own sentence: the largest distance of an answer, less the asking student's own weight, over
+-- the pairs that are not fixed, and 0 if all are fixed. Assumes nothing.
 use Prim.Native.Nat.{ℕ, _-_, _≤_, _<_}
-use mathlib.Core.Path.{_≡_, refl, sym, _∙_, ap}
+use mathlib.Core.Path.{_≡_, refl, sym, subst, _∙_, ap}
+use mathlib.Core.Bool.{Bool, true, false}
 use mathlib.Core.List.{List}
 use native.Mathlib.Omega.{arith}
 use lib.ListN.{length}
-use lib.IntN.{pos}
-use Rattle.laws.specs.Choice.{split}
-use Rattle.laws.specs.Maximum.{maximum, maximum-ge, maximum-at, maximum-same, maximum-less}
+use lib.IntN.{ℤ, pos}
+use Rattle.laws.specs.Choice.{split, tested}
+use Rattle.laws.specs.First.{clash, some, some-at, some-true}
+use Rattle.laws.specs.Maximum.{maximum, maximum-ge, maximum-le, maximum-at, maximum-same}
 use Rattle.laws.specs.Values.{values, length-values}
-use Rattle.format.specs.Verdict.{fine}
-use Rattle.format.specs.Outcome.{gives}
+use Rattle.format.specs.Verdict.{Verdict, fine}
+use Rattle.format.specs.Outcome.{Outcome, gives, after}
 use Rattle.format.specs.Laws.Outcome.{gives-same, after-fine}
 use Rattle.format.specs.Format.{people}
-use Rattle.stable_theory.specs.Repairs.Repair.{Parts}
 use Rattle.stable_theory.specs.Repairs.Answer.{Answer, Answers, nearer-up, nearer-down, neither, cost, robustness}
-use Rattle.stable_theory.specs.Repairs.RobustLaws.{weight-besides}
 use Rattle.matchings.specs.BookMarket.{market}
 use Rattle.matchings.specs.Matching.{vectorOf, checkMatching, StableIn}
-use Rattle.matchings.specs.Extreme.{matchingOf}
-use Rattle.repairs.specs.Repair.{movedCount, RepairAnswer, up, down, fixed, withDistance, answerFor}
-use Rattle.repairs.specs.Grade.{gradeOf, gradeReply}
+use Rattle.repairs.specs.Repair.{RepairAnswer, up, down, fixed, withDistance, answerFor}
+use Rattle.repairs.specs.Grade.{gradeOf}
 use Rattle.repairs.specs.Laws.Bytes.{moved-vector}
-use Rattle.repairs.specs.Laws.Demand3.{inside, answers, reply-is}
-use Rattle.repairs.specs.Promise.{AnswerIs, ReportedDistance, reported-up, reported-down, LargestLessOne, largest-less-one, all-fixed}
+use Rattle.repairs.specs.Laws.Demand3.{inside, answers}
+use Rattle.repairs.specs.Promise.{AnswerIs, ReportedDistance, reported-up, reported-down, LargestLessOwn, largest-less-own, all-fixed}
 
 -- the distance that an answer carries, 0 where it is fixed
 abbrev distanceIn : RepairAnswer → ℕ
@@ -31,75 +30,97 @@ distanceIn (up d) = d
 distanceIn (down d) = d
 distanceIn fixed = 0
 
--- an answer that carries a distance reports it
-reported : {b m : List ℕ} {s : ℕ} (a : RepairAnswer) → AnswerIs b m s a → 0 < distanceIn a → ReportedDistance b m s (distanceIn a)
-reported (up d) A l = reported-up A
-reported (down d) A l = reported-down A
-reported fixed A l = absurd (omega arith)
+-- whether it is a repair
+abbrev repairs : RepairAnswer → Bool
+repairs (up d) = true
+repairs (down d) = true
+repairs fixed = false
 
-module _ {b m : List ℕ} (S : StableIn b m) {s : ℕ} (l : s < people b) where
-  -- a repair moves the asking student at least
-  some-moved : {v : ℕ → ℕ} → Parts (market b) (vectorOf b m) s v → 0 < movedCount (people b) m (matchingOf b v)
-  unfolding market
-  some-moved {v} K = omega (arith, moved-vector (S .matching) (K .stable), weight-besides (λ i. 1) (vectorOf b m) v l K)
+-- an answer that is a repair reports its distance, and any other is fixed
+reported : {n : ℕ} {reply : List ℕ → List ℤ → Outcome RepairAnswer} (a : RepairAnswer) → AnswerIs n reply a → repairs a ≡ true → ReportedDistance n reply (distanceIn a)
+reported (up d) A e = reported-up A
+reported (down d) A e = reported-down A
+reported fixed A e = absurd (clash e refl)
 
-  -- so an answer that carries the distance 0 is fixed
-  none-fixed : {a : Answer} → Answers (market b) (λ i. 1) (vectorOf b m) s a → distanceIn (withDistance b m a) ≡ 0 → withDistance b m a ≡ fixed
-  none-fixed (nearer-up K f) e = absurd (omega (arith, some-moved (K .parts)))
-  none-fixed (nearer-down K f) e = absurd (omega (arith, some-moved (K .parts)))
-  none-fixed (neither n k) e = refl
+is-fixed : (a : RepairAnswer) → repairs a ≡ false → a ≡ fixed
+is-fixed (up d) e = absurd (clash refl e)
+is-fixed (down d) e = absurd (clash refl e)
+is-fixed fixed e = refl
 
-  -- and what it counts in the grade is its distance less 1
-  cost-is : {a : Answer} → Answers (market b) (λ i. 1) (vectorOf b m) s a → cost (market b) (λ i. 1) (vectorOf b m) s a ≡ distanceIn (withDistance b m a) - 1
-  unfolding cost
-  cost-is (nearer-up K f) = omega (arith, moved-vector (S .matching) (K .parts .stable))
-  cost-is (nearer-down K f) = omega (arith, moved-vector (S .matching) (K .parts .stable))
-  cost-is (neither n k) = omega arith
+-- what carries a distance is a repair
+far-repairs : (a : RepairAnswer) → 0 < distanceIn a → repairs a ≡ true
+far-repairs (up d) l = refl
+far-repairs (down d) l = refl
+far-repairs fixed l = absurd (omega arith)
 
-module _ (b m : List ℕ) (f : checkMatching b m ≡ fine) where
-  -- the answer for each student, and the distance that it carries
+-- what an answer counts in the grade is its distance less the asking student's own weight
+cost-is :
+    {b m : List ℕ} → StableIn b m → (c : ℕ → ℕ) {s : ℕ} {a : Answer} → Answers (market b) c (vectorOf b m) s a →
+    cost (market b) c (vectorOf b m) s a ≡ distanceIn (withDistance b c m a) - c s
+unfolding cost
+cost-is S c (nearer-up K f) = omega (arith, moved-vector (S .matching) c (K .parts .stable))
+cost-is S c (nearer-down K f) = omega (arith, moved-vector (S .matching) c (K .parts .stable))
+cost-is S c (neither n k) = omega arith
+
+-- `replies s` gives the answer for the pair of student s
+module _ (b : List ℕ) (c : ℕ → ℕ) (m : List ℕ) (f : checkMatching b m ≡ fine) (replies : ℕ → List ℕ → List ℤ → Outcome RepairAnswer)
+    (given : (s : ℕ) → s < people b → AnswerIs (people b) (replies s) (withDistance b c m (answerFor b c m s))) where
   answer : ℕ → RepairAnswer
-  answer s = withDistance b m (answerFor b m s)
+  answer s = withDistance b c m (answerFor b c m s)
 
-  distance : ℕ → ℕ
-  distance s = distanceIn (answer s)
+  less : ℕ → ℕ
+  less s = distanceIn (answer s) - c s
 
-  answer-is : {s : ℕ} → s < people b → AnswerIs b m s (answer s)
+  -- what is reported is the distance of the answer: there are buffers that are long enough
+  only : {s : ℕ} → s < people b → {a : RepairAnswer} → AnswerIs (people b) (replies s) a → answer s ≡ a
   unfolding answer
-  answer-is {s} l out gains room gains-room = reply-is b m s out gains f l room gains-room
-
-  -- what is reported is that distance: there are buffers that are long enough
-  only : {s : ℕ} → s < people b → {a : RepairAnswer} → AnswerIs b m s a → answer s ≡ a
-  only l A =
+  only {s} l A =
       let gains = values (λ i. pos 0) 0 (people b) in
       let room : people b ≤ length m = omega (arith, inside b m f .matching .long) in
       let gains-room : people b ≤ length gains = omega (arith, length-values (λ i. pos 0) 0 (people b)) in
-      gives-same (sym (answer-is l m gains room gains-room) ∙ A m gains room gains-room)
+      gives-same (sym (given s l m gains room gains-room) ∙ A m gains room gains-room)
 
-  reported-is : {s d : ℕ} → s < people b → ReportedDistance b m s d → distance s ≡ d
-  unfolding distance
+  reported-is : {s d : ℕ} → s < people b → ReportedDistance (people b) (replies s) d → distanceIn (answer s) ≡ d
   reported-is l (reported-up A) = ap distanceIn (only l A)
   reported-is l (reported-down A) = ap distanceIn (only l A)
 
-  -- the grade is the largest of these distances less 1
-  grade-maximum : gradeOf b m ≡ maximum (people b) distance - 1
-  unfolding market robustness distance answer
+  -- the grade is the largest of these, each less the student's own weight
+  grade-maximum : gradeOf b c m ≡ maximum (people b) less
+  unfolding market robustness less answer
   grade-maximum =
-      maximum-same (people b) (λ s. cost (market b) (λ i. 1) (vectorOf b m) s (answerFor b m s)) (λ s. distance s - 1) (λ s l. cost-is (inside b m f) l (answers b m f l))
-      ∙ maximum-less (people b) distance 1
+      maximum-same (people b) (λ s. cost (market b) c (vectorOf b m) s (answerFor b c m s)) less (λ s l. cost-is (inside b m f) c (answers b m f c l))
 
-  less-one : LargestLessOne b m (gradeOf b m)
-  unfolding distance answer
-  less-one =
-      split (maximum (people b) distance) 0
-      (λ z. all-fixed
-      (λ s l. let e = none-fixed (inside b m f) l (answers b m f l) (omega (arith, maximum-ge (people b) distance s l)) in rw (← e) (answer-is l))
-      (omega (arith, grade-maximum)))
+  -- that of student s, whose pair is not fixed, is the largest
+  at : {s : ℕ} → s < people b → repairs (answer s) ≡ true → less s ≡ maximum (people b) less → LargestLessOwn (people b) c replies (gradeOf b c m)
+  unfolding less answer
+  at {s} l e q =
+      largest-less-own l (reported (answer s) (given s l) e)
+      (λ t d u R. omega (arith, maximum-ge (people b) less t u, reported-is u R))
+      (omega (arith, grade-maximum))
+
+  -- where all are fixed it is 0
+  none : ((s : ℕ) → s < people b → repairs (answer s) ≡ false) → LargestLessOwn (people b) c replies (gradeOf b c m)
+  unfolding less answer
+  none h =
+      all-fixed (λ s l. subst (AnswerIs (people b) (replies s)) (is-fixed (answer s) (h s l)) (given s l))
+      (omega (arith, grade-maximum, maximum-le (people b) less 0 (λ s l. omega (arith, ap distanceIn (is-fixed (answer s) (h s l))))))
+
+  sentence : LargestLessOwn (people b) c replies (gradeOf b c m)
+  unfolding less
+  sentence =
+      tested (some (λ s. repairs (answer s)) (people b))
+      (λ e.
+      let (s, l, r) = some-at (λ s. repairs (answer s)) (people b) e in
+      split (maximum (people b) less) 0
+      (λ z. at l r (omega (arith, maximum-ge (people b) less s l)))
       (λ z.
-      let k = maximum-at (people b) distance z in
-      largest-less-one (k .1) (reported (answer (k .0)) (answer-is (k .1)) (omega (arith, k .2)))
-      (λ t e l R. omega (arith, k .2, maximum-ge (people b) distance t l, reported-is l R))
-      (omega (arith, grade-maximum, k .2)))
+      let (t, u, q) = maximum-at (people b) less z in
+      at u (far-repairs (answer t) (omega arith)) q))
+      (λ e. none (λ s l. tested (repairs (answer s)) (λ r. absurd (clash (some-true (λ s. repairs (answer s)) l r) e)) (λ r. r)))
 
-  pub grade-largest : (g : ℕ) × (gradeReply b m ≡ gives g) × LargestLessOne b m g
-  grade-largest = (gradeOf b m, sym (after-fine f refl refl), less-one)
+pub grade-largest :
+    (b : List ℕ) (c : ℕ → ℕ) (m : List ℕ) → checkMatching b m ≡ fine → {v : Verdict} → v ≡ fine →
+    (replies : ℕ → List ℕ → List ℤ → Outcome RepairAnswer) →
+    ((s : ℕ) → s < people b → AnswerIs (people b) (replies s) (withDistance b c m (answerFor b c m s))) →
+    (g : ℕ) × (after v (gradeOf b c m) ≡ gives g) × LargestLessOwn (people b) c replies g
+grade-largest b c m f e replies given = (gradeOf b c m, sym (after-fine e refl refl), sentence b c m f replies given)

@@ -1,7 +1,7 @@
 -- The check of a request: a pair of the matching with room for its repair is not refused, and what is known where
 -- nothing is. Assumes nothing.
 use Prim.Native.Nat.{ℕ, _≤_, _<_}
-use mathlib.Core.Path.{_≡_, refl}
+use mathlib.Core.Path.{_≡_, refl, _∙_}
 use mathlib.Core.List.{List}
 use mathlib.Core.Bool.{not}
 use lib.ListN.{length}
@@ -9,17 +9,53 @@ use lib.Dec.{leb, ltb, eqb}
 use borrow.Author.Tests.{lt-leb, eq-eqb, ne-eqb, le-ltb, leb-false, ltb-false, eqb-true, not-false}
 use Rattle.laws.specs.Choice.{either, either-none}
 use Rattle.format.specs.Verdict.{fine, broken, rule}
-use Rattle.format.specs.Laws.Verdict.{rule-fine}
-use Rattle.format.specs.Format.{pairRow}
+use Rattle.format.specs.Laws.Verdict.{goes-on, rule-fine}
+use Rattle.format.specs.Format.{people, pairRow}
 use Rattle.format.specs.Laws.Rows.{pair-first, pair-second, pair-long}
-use Rattle.matchings.specs.Matching.{womanOf}
-use Rattle.repairs.specs.Request.{askingMan, askingWoman, checkPair, checkAsked}
+use Rattle.matchings.specs.Matching.{checkMatching, womanOf}
+use Rattle.matchings.specs.Laws.StableCheck.{fine-stable}
+use Rattle.repairs.specs.Weights.{checkWeights, checkWeighed}
+use Rattle.repairs.specs.Request.{askingMan, askingWoman, checkPair, checkAsked, checkRequest, checkWeightedRequest}
 
 -- student s and his mentor, with room
 pub pair-fine : (n : ℕ) (m : List ℕ) (s room gainsRoom : ℕ) → s < n → womanOf m s < n → n ≤ room → n ≤ gainsRoom → checkAsked n m (pairRow s (womanOf m s)) room gainsRoom ≡ fine
 unfolding checkAsked checkPair
 pair-fine n m s room gainsRoom u v h k =
     rw (pair-long, pair-first, pair-second, lt-leb n s u, lt-leb n (womanOf m s) v, eq-eqb (womanOf m s) (womanOf m s) refl, le-ltb room n h, le-ltb gainsRoom n k)
+
+-- so the request for a pair of a stable matching is not refused
+pub request-fine :
+    (b m : List ℕ) (s : ℕ) → checkMatching b m ≡ fine → s < people b → {room gainsRoom : ℕ} → people b ≤ room → people b ≤ gainsRoom →
+    checkRequest b m (pairRow s (womanOf m s)) room gainsRoom ≡ fine
+request-fine b m s f l {room} {gainsRoom} h k =
+    goes-on (checkMatching b m) _ f ∙ pair-fine (people b) m s room gainsRoom l (fine-stable b m .0 f .matching .names .below l) h k
+
+-- n weights are not refused
+pub weights-fine : (n : ℕ) (k : List ℕ) → length k ≡ n → checkWeights n k ≡ fine
+unfolding checkWeights
+weights-fine n k e = rw (eq-eqb (length k) n e)
+
+-- any other number is, by 17
+pub weights-17 : (n : ℕ) (k : List ℕ) → (length k ≡ n → ⊥) → checkWeights n k ≡ broken 17 0
+unfolding checkWeights
+weights-17 n k h = rw (ne-eqb (length k) n h)
+
+-- so where none is, there are n
+pub weights-counted : (n : ℕ) (k : List ℕ) → checkWeights n k ≡ fine → length k ≡ n
+unfolding checkWeights
+weights-counted n k e = eqb-true _ _ (not-false _ (rule-fine (not (eqb (length k) n)) 17 0 fine e .0))
+
+pub weighed-fine : (b m k : List ℕ) → checkMatching b m ≡ fine → length k ≡ people b → checkWeighed b m k ≡ fine
+weighed-fine b m k f e = goes-on (checkMatching b m) _ f ∙ weights-fine (people b) k e
+
+-- nor is the request with them
+pub weighted-fine :
+    (b m k : List ℕ) (s : ℕ) → checkMatching b m ≡ fine → length k ≡ people b → s < people b →
+    {room gainsRoom : ℕ} → people b ≤ room → people b ≤ gainsRoom →
+    checkWeightedRequest b m k (pairRow s (womanOf m s)) room gainsRoom ≡ fine
+weighted-fine b m k s f e l {room} {gainsRoom} h j =
+    goes-on (checkWeighed b m k) _ (weighed-fine b m k f e)
+    ∙ pair-fine (people b) m s room gainsRoom l (fine-stable b m .0 f .matching .names .below l) h j
 
 module _ (n : ℕ) (m q : List ℕ) (room gainsRoom : ℕ) where
   -- a request that is not two entries is refused by 13

@@ -1,6 +1,6 @@
--- Every number of a sheet has at most four digits: n, the number of rotations, the grade and the distances, over the
+-- Every number of a sheet has at most five digits: n, the number of rotations, the grade and the distances, over the
 -- record and the places that the check of a matching leaves. Assumes nothing.
-use Prim.Native.Nat.{ℕ, _-_, _≤_}
+use Prim.Native.Nat.{ℕ, _-_, _*_, _≤_, _<_}
 use mathlib.Core.Path.{_≡_}
 use mathlib.Core.List.{List}
 use native.Mathlib.Omega.{arith}
@@ -19,23 +19,23 @@ use Rattle.instances.specs.Usable.{Usable, marketIn}
 use Rattle.nearest.specs.Nearest.{costs}
 use Rattle.pair_answers.specs.declared.answers.Summary.{Summary}
 use Rattle.pair_answers.specs.Answered.{PairsAnswered}
-use Rattle.sheet_text.specs.Put.{FourDigits, PairsGiven}
+use Rattle.sheet_text.specs.Put.{FiveDigits, PairsGiven}
 use Rattle.sheet_answers.specs.Laws.Short.{far-most}
 
 module _ {R : Record} (U : Usable R) where
   -- n, and the rotations, of which there are at most n × (n − 1) / 2
-  pub size-short : FourDigits (R .n)
+  pub size-short : FiveDigits (R .n)
   size-short = omega (arith, U .few)
 
-  pub rotations-short : {rotations : ℕ} → rotations ≡ total (marketIn R) → FourDigits rotations
+  pub rotations-short : {rotations : ℕ} → rotations ≡ total (marketIn R) → FiveDigits rotations
   rotations-short e =
       let M = U .men .proper in
       let less : R .n - 1 ≤ largest - 1 = omega (arith, U .few) in
       omega (arith, rotations-most-complete M (rotations-complete M) (U .complete), mul-le-mul (U .few) less)
 
-  module _ {p : Places} {letters distances : List ℕ} {r : Summary} (A : PairsAnswered R p letters distances r) where
-    -- the grade is at most n
-    pub grade-short : FourDigits (r .grade)
+  module _ {c : ℕ → ℕ} (light : (i : ℕ) → i < R .n → c i ≤ 255) {p : Places} {letters distances : List ℕ} {r : Summary} (A : PairsAnswered R c p letters distances r) where
+    -- the grade is at most 255 for each man
+    pub grade-short : FiveDigits (r .grade)
     grade-short =
         let I = marketIn R in
         let v = vec (p .men) in
@@ -43,7 +43,7 @@ module _ {R : Record} (U : Usable R) where
           arith,
           U .few,
           A .largest-cost,
-          maximum-le (R .n) (costs I v) (R .n) (λ s u. omega (arith, far-most I v (answerOf I (λ i. 1) v s))),
+          maximum-le (R .n) (costs I c v) (R .n * 255) (λ s u. omega (arith, far-most I c v light (answerOf I c v s))),
         )
 
     -- and so are the distances
@@ -58,5 +58,5 @@ module _ {R : Record} (U : Usable R) where
               let B = A .at u in
               let I = marketIn R in
               let v = vec (p .men) in
-              omega (arith, U .few, B .distance, far-most I v (answerOf I (λ i. 1) v s));
+              omega (arith, U .few, B .distance, far-most I c v light (answerOf I c v s));
         }

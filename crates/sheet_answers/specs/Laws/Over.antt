@@ -29,13 +29,13 @@ use Rattle.repairs.specs.Laws.RepairBytes.{holds}
 use Rattle.nearest.specs.Nearest.{farOf}
 use Rattle.nearest.specs.Laws.Book.{judged-formed, judged-number, judged-alike, judged-usable, answer-book, far-book, grade-book}
 use Rattle.sheets.specs.Line.{topLine, pairLines}
+use Rattle.sheets.specs.LineLaws.{lines-same}
 use Rattle.sheets.specs.Sheet.{letterOf, distanceOf, answers}
 use Rattle.pair_answers.specs.declared.answers.Summary.{Summary}
 use Rattle.pair_answers.specs.Answered.{letterByte, PairsAnswered}
 use Rattle.sheet_text.specs.Put.{Put}
 use Rattle.sheet_text.specs.Laws.Put.{put-on, put-long}
 use Rattle.sheet_answers.specs.Over.{letterIn, distanceIn, sheetIn, sheetOver}
-use Rattle.sheet_text.specs.Laws.Lines.{lines-same}
 
 -- the byte of an answer's letter
 letter-byte : (a : Answer) → letterByte a ≡ letterOf a
@@ -43,7 +43,7 @@ letter-byte (U v) = refl
 letter-byte (D v) = refl
 letter-byte F = refl
 
-module _ {R : Record} {p : Places} {letters distances : List ℕ} {r : Summary} (A : PairsAnswered R p letters distances r) (m : List ℕ) where
+module _ {R : Record} {c : ℕ → ℕ} {p : Places} {letters distances : List ℕ} {r : Summary} (A : PairsAnswered R c p letters distances r) (m : List ℕ) where
   abbrev top : List ℕ
   top = topLine (R .n) (r .rotations) (r .grade)
 
@@ -51,28 +51,28 @@ module _ {R : Record} {p : Places} {letters distances : List ℕ} {r : Summary} 
   pairs = pairLines (womanOf m) (vec letters) (vec distances) (R .n)
 
   -- the lines with the letters and distances that were collected are the sheet
-  sheet-in : top ++ pairs ≡ sheetOver R p m
+  sheet-in : top ++ pairs ≡ sheetOver R c p m
   unfolding sheetIn
   sheet-in =
       let I = marketIn R in
       let v = vec (p .men) in
       ap₂ (λ (t l : List ℕ). t ++ l) (ap₂ (topLine (R .n)) (A .all-rotations) (A .largest-cost))
-      (lines-same {w = womanOf m} {l = vec letters} {d = vec distances} {v = womanOf m} {m = letterIn I v} {e = distanceIn I v} (R .n)
-      (λ s u. let B = A .at u in (refl, B .letter ∙ letter-byte (answerOf I (λ i. 1) v s), B .distance)))
+      (lines-same {w = womanOf m} {l = vec letters} {d = vec distances} {v = womanOf m} {m = letterIn I c v} {e = distanceIn I c v} (R .n)
+      (λ s u. let B = A .at u in (refl, B .letter ∙ letter-byte (answerOf I c v s), B .distance)))
 
   -- there is room for each part of it
-  room : length top + length pairs ≡ length (sheetOver R p m)
+  room : length top + length pairs ≡ length (sheetOver R c p m)
   room = sym (length-append top pairs) ∙ ap length sheet-in
 
-  pub top-fits : {k : ℕ} → length (sheetOver R p m) ≤ k → 0 + length top ≤ k
+  pub top-fits : {k : ℕ} → length (sheetOver R c p m) ≤ k → 0 + length top ≤ k
   top-fits h = omega (arith, room)
 
   module _ {text first : List ℕ} {end : ℕ} (P : Put text 0 top first end) where
-    pub pairs-fit : length (sheetOver R p m) ≤ length text → end + length pairs ≤ length first
+    pub pairs-fit : length (sheetOver R c p m) ≤ length text → end + length pairs ≤ length first
     pairs-fit h = omega (arith, room, P .next, put-long P (top-fits h))
 
     -- and the two parts put one after the other are the whole
-    pub sheet-put : {last : List ℕ} {after : ℕ} → Put first end pairs last after → Put text 0 (sheetOver R p m) last after
+    pub sheet-put : {last : List ℕ} {after : ℕ} → Put first end pairs last after → Put text 0 (sheetOver R c p m) last after
     sheet-put Q = rw (← sheet-in) (put-on P (omega arith) Q)
 
 -- the same answer has the same letter
@@ -81,14 +81,14 @@ letter-same (same-up e) = refl
 letter-same (same-down e) = refl
 letter-same same-fixed = refl
 
--- an answer's distance in bytes is the number of moved places
-distance-far : {b m : List ℕ} → StableIn b m → {s : ℕ} {a : Answer} → Answers (market b) (λ i. 1) (vectorOf b m) s a →
-    distanceOf b m a ≡ farOf (market b) (vectorOf b m) a
-distance-far S (nearer-up K f) = moved-vector (S .matching) (K .parts .stable)
-distance-far S (nearer-down K f) = moved-vector (S .matching) (K .parts .stable)
-distance-far S (neither h k) = refl
+-- an answer's distance in bytes is the weight of the moved places
+distance-far : {b m : List ℕ} → StableIn b m → (c : ℕ → ℕ) {s : ℕ} {a : Answer} → Answers (market b) c (vectorOf b m) s a →
+    distanceOf b c m a ≡ farOf (market b) c (vectorOf b m) a
+distance-far S c (nearer-up K f) = moved-vector (S .matching) c (K .parts .stable)
+distance-far S c (nearer-down K f) = moved-vector (S .matching) c (K .parts .stable)
+distance-far S c (neither h k) = refl
 
-module _ {b m : List ℕ} {R : Record} {j : Judged} (J : BookJudged b m R j) (f : checkMatching b m ≡ fine) where
+module _ {b m : List ℕ} {R : Record} {j : Judged} (J : BookJudged b m R j) (f : checkMatching b m ≡ fine) (c : ℕ → ℕ) where
   -- the market of the record, and the places
   abbrev I : Market
   I = marketIn R
@@ -97,15 +97,15 @@ module _ {b m : List ℕ} {R : Record} {j : Judged} (J : BookJudged b m R j) (f 
   p = vec (j .places .men)
 
   -- the letter and the distance over the record are those of the bytes
-  letter-book : {s : ℕ} → s < R .n → letterIn I p s ≡ letterOf (answerFor b m s)
-  letter-book u = letter-same (answer-book J f u)
+  letter-book : {s : ℕ} → s < R .n → letterIn I c p s ≡ letterOf (answerFor b c m s)
+  letter-book u = letter-same (answer-book J f c u)
 
-  distance-book : {s : ℕ} → s < R .n → distanceIn I p s ≡ distanceOf b m (answerFor b m s)
+  distance-book : {s : ℕ} → s < R .n → distanceIn I c p s ≡ distanceOf b c m (answerFor b c m s)
   distance-book {s} u =
       let S = fine-stable b m .0 f in
       let v : s < people b = omega (arith, judged-number J f) in
-      let A = answer-of (market-proper (S .matching .formed)) (λ i. 1) (vector-stable S) (holds S v) in
-      far-book J f u ∙ sym (distance-far S A)
+      let A = answer-of (market-proper (S .matching .formed)) c (vector-stable S) (holds S v) in
+      far-book J f c u ∙ sym (distance-far S c A)
 
   -- the record has as many rotations as the book
   totals : total I ≡ total (market b)
@@ -114,9 +114,9 @@ module _ {b m : List ℕ} {R : Record} {j : Judged} (J : BookJudged b m R j) (f 
       rotations-alike (judged-usable J f .men .proper) (market-proper W) (judged-alike J f) .0
 
   -- and the sheet over the record is the sheet of the bytes
-  pub sheet-over : sheetOver R (j .places) m ≡ answers b m
+  pub sheet-over : sheetOver R c (j .places) m ≡ answers b c m
   unfolding sheetIn answers
   sheet-over =
-      rw (totals, grade-book J f, ← judged-number J f)
-      (ap (λ (l : List ℕ). topLine (R .n) (total (market b)) (gradeOf b m) ++ l)
+      rw (totals, grade-book J f c, ← judged-number J f)
+      (ap (λ (l : List ℕ). topLine (R .n) (total (market b)) (gradeOf b c m) ++ l)
       (lines-same (R .n) (λ s u. (refl, letter-book u, distance-book u))))

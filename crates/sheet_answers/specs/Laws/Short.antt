@@ -1,18 +1,22 @@
--- How long a sheet can be: line one, and a line for each of the largest n. Assumes nothing.
-use Prim.Native.Nat.{ℕ, _≤_}
+-- How long a sheet can be, where no weight is over h: line one, and a line for each of the largest n. Assumes nothing.
+use Prim.Native.Nat.{ℕ, _+_, _*_, _^_, _≤_, _<_}
 use mathlib.Core.Path.{_≡_, refl, ap}
-use mathlib.Core.Bool.{not}
+use mathlib.Core.Bool.{Bool, not}
 use mathlib.Core.List.{List}
 use native.Mathlib.Omega.{arith}
+use native.Mathlib.Nat.{mul-le-mul-right, mul-le-mul-left}
 use lib.ListN.{length, length-append}
 use lib.Dec.{eqb}
-use Rattle.laws.specs.SumLaws.{count-most}
+use Rattle.laws.specs.Choice.{pick, tested}
+use Rattle.laws.specs.Sum.{sum}
+use Rattle.laws.specs.SumLaws.{sum-times}
 use Rattle.laws.specs.Maximum.{maximum-le}
 use Rattle.laws.specs.Onto.{Into}
 use Rattle.format.specs.Verdict.{Verdict, fine, refused}
 use Rattle.format.specs.Format.{largest, people}
 use Rattle.format.specs.WellFormed.{WellFormed}
-use Rattle.format.specs.Laws.Numbers.{numberOf}
+use Rattle.format.specs.Laws.Verdict.{all-fine}
+use Rattle.format.specs.Laws.Numbers.{numberOf, most, both-most}
 use Rattle.stable_theory.specs.Stable.Market.{Market}
 use Rattle.stable_theory.specs.Repairs.Repair.{moved, weight}
 use Rattle.stable_theory.specs.Repairs.Answer.{Answer, U, D, F, cost, robustness}
@@ -23,67 +27,101 @@ use Rattle.matchings.specs.Extreme.{matchingOf}
 use Rattle.matchings.specs.Laws.StableCheck.{fine-stable}
 use Rattle.matchings.specs.Laws.Numbers.{matching-most}
 use Rattle.rotations.specs.Largest.{rotations-within}
+use Rattle.repairs.specs.Weights.{weightOf, checkWeights, checkWeighed}
 use Rattle.repairs.specs.Repair.{answerFor}
 use Rattle.repairs.specs.Grade.{gradeOf}
 use Rattle.nearest.specs.Nearest.{farOf}
 use Rattle.sheets.specs.Line.{topLine, pairLines}
-use Rattle.sheets.specs.Longest.{longest}
-use Rattle.sheets.specs.Sheet.{letterOf, distanceOf, answers, sheetAfter, sheetFor, bookPart, matchingPart, sheetOf}
+use Rattle.sheets.specs.Longest.{digits, totalDigits, topMost, pairMost, longest, weightedLongest}
+use Rattle.sheets.specs.Sheet.{letterOf, distanceOf, answers, sheetAfter, sheetFor, weightedSheetFor}
 use Rattle.sheet_text.specs.Laws.Lines.{top-short, refusal-short, lines-short}
 
--- an answer's distance is at most n
-pub distance-most : (b m : List ℕ) (a : Answer) → distanceOf b m a ≤ people b
-distance-most b m (U v) = count-most (people b) (λ i. not (eqb (womanOf (matchingOf b v) i) (womanOf m i)))
-distance-most b m (D v) = count-most (people b) (λ i. not (eqb (womanOf (matchingOf b v) i) (womanOf m i)))
-distance-most b m F = omega arith
+-- the terms of a total are at most h each: so is the total, for each student
+terms-most : (n h : ℕ) (p : ℕ → Bool) (c : ℕ → ℕ) → ((i : ℕ) → i < n → c i ≤ h) → sum n (λ i. pick (p i) (c i) 0) ≤ n * h
+terms-most n h p c light =
+    sum-times n h (λ i. pick (p i) (c i) 0) (λ i u. tested (p i) (λ e. rw e (light i u)) (λ e. rw e (omega arith)))
 
--- over a market too: it moves at most everybody
-pub far-most : (I : Market) (p : ℕ → ℕ) (a : Answer) → farOf I p a ≤ I .proposers .size
+-- Weights of at most h
+module _ (b : List ℕ) (c : ℕ → ℕ) (m : List ℕ) {h : ℕ} (light : (i : ℕ) → i < people b → c i ≤ h) where
+  -- an answer's distance is at most h for each student
+  pub distance-most : (a : Answer) → distanceOf b c m a ≤ people b * h
+  distance-most (U v) = terms-most (people b) h (λ i. not (eqb (womanOf (matchingOf b v) i) (womanOf m i))) c light
+  distance-most (D v) = terms-most (people b) h (λ i. not (eqb (womanOf (matchingOf b v) i) (womanOf m i))) c light
+  distance-most F = omega arith
+
+-- over a market too
+pub far-most : (I : Market) (c p : ℕ → ℕ) {h : ℕ} → ((i : ℕ) → i < I .proposers .size → c i ≤ h) → (a : Answer) → farOf I c p a ≤ I .proposers .size * h
 unfolding weight
-far-most I p (U v) = count-most (I .proposers .size) (moved p v)
-far-most I p (D v) = count-most (I .proposers .size) (moved p v)
-far-most I p F = omega arith
+far-most I c p {h} light (U v) = terms-most (I .proposers .size) h (moved p v) c light
+far-most I c p {h} light (D v) = terms-most (I .proposers .size) h (moved p v) c light
+far-most I c p light F = omega arith
 
 -- and so is its cost
-cost-most : (I : Market) (p : ℕ → ℕ) (s : ℕ) (a : Answer) → cost I (λ i. 1) p s a ≤ I .proposers .size
+cost-most : (I : Market) (c p : ℕ → ℕ) {h : ℕ} → ((i : ℕ) → i < I .proposers .size → c i ≤ h) → (s : ℕ) (a : Answer) → cost I c p s a ≤ I .proposers .size * h
 unfolding cost
-cost-most I p s (U v) = omega (arith, far-most I p (U v))
-cost-most I p s (D v) = omega (arith, far-most I p (D v))
-cost-most I p s F = omega arith
+cost-most I c p light s (U v) = omega (arith, far-most I c p light (U v))
+cost-most I c p light s (D v) = omega (arith, far-most I c p light (D v))
+cost-most I c p light s F = omega arith
 
 -- so is the grade
-pub grade-most : (b m : List ℕ) → gradeOf b m ≤ people b
+pub grade-most : (b : List ℕ) (c : ℕ → ℕ) (m : List ℕ) {h : ℕ} → ((i : ℕ) → i < people b → c i ≤ h) → gradeOf b c m ≤ people b * h
 unfolding robustness market
-grade-most b m =
-    maximum-le (people b) (λ s. cost (market b) (λ i. 1) (vectorOf b m) s (answerFor b m s)) (people b)
-    (λ s u. cost-most (market b) (vectorOf b m) s (answerFor b m s))
+grade-most b c m {h} light =
+    maximum-le (people b) (λ s. cost (market b) c (vectorOf b m) s (answerFor b c m s)) (people b * h)
+    (λ s u. cost-most (market b) c (vectorOf b m) light s (answerFor b c m s))
 
-module _ {b : List ℕ} (W : WellFormed b) where
-  -- the sheet of a stable matching is no longer than the longest
-  pub answers-short : (m : List ℕ) → Into (people b) (people b) (womanOf m) → length (answers b m) ≤ longest
+-- Weights of at most h, where a total of so many for each of the largest n has at most e digits
+module _ {b : List ℕ} (W : WellFormed b) (c : ℕ → ℕ) {h e : ℕ} (light : (i : ℕ) → i < people b → c i ≤ h) (some : 0 < e) (short : largest * h < 10 ^ e) where
+  -- a total has at most e digits
+  total-short : {x : ℕ} → x ≤ people b * h → x < 10 ^ e
+  total-short l = omega (arith, mul-le-mul-right h (W .few))
+
+  -- so the sheet of a stable matching is no longer than the longest
+  pub answers-short : (m : List ℕ) → Into (people b) (people b) (womanOf m) → length (answers b c m) ≤ topMost e + pairMost e * largest
   unfolding answers
   answers-short m N =
       let few : people b ≤ largest = W .few in
-      let top = topLine (people b) (total (market b)) (gradeOf b m) in
-      let pairs = pairLines (womanOf m) (λ s. letterOf (answerFor b m s)) (λ s. distanceOf b m (answerFor b m s)) (people b) in
+      let top = topLine (people b) (total (market b)) (gradeOf b c m) in
+      let pairs = pairLines (womanOf m) (λ s. letterOf (answerFor b c m s)) (λ s. distanceOf b c m (answerFor b c m s)) (people b) in
       omega (
         arith,
         length-append top pairs,
-        top-short {n = people b} {r = total (market b)} {g = gradeOf b m} (omega arith) (omega (arith, rotations-within W)) (omega (arith, grade-most b m)),
-        lines-short (womanOf m) (λ s. letterOf (answerFor b m s)) (λ s. distanceOf b m (answerFor b m s)) (people b)
-            (λ s u. (omega arith, omega (arith, N .below u), omega (arith, distance-most b m (answerFor b m s)))),
+        top-short {n = people b} {r = total (market b)} {g = gradeOf b c m} e some (omega arith) (omega (arith, rotations-within W)) (total-short (grade-most b c m light)),
+        lines-short (womanOf m) (λ s. letterOf (answerFor b c m s)) (λ s. distanceOf b c m (answerFor b c m s)) e some (people b)
+            (λ s u. (omega arith, omega (arith, N .below u), total-short (distance-most b c m light (answerFor b c m s)))),
+        mul-le-mul-left (2 * digits + e + 5) few,
       )
 
--- No sheet is longer
-pub parts-short : (b m : List ℕ) → length (sheetFor b m) ≤ longest
-parts-short b m = after (checkMatching b m) refl
-  where
-    after : (v : Verdict) → checkMatching b m ≡ v → length (sheetAfter v b m) ≤ longest
-    after fine e = let A = fine-stable b m .0 e .matching in answers-short (A .formed) m (A .names)
-    after (refused number place second) e =
-        let k : number ≤ 10 = omega (arith, matching-most b m, ap numberOf e) in
-        omega (arith, refusal-short {k = number} (omega arith))
+-- The sheet after a check that refuses by a number below 100 is no longer either
+module _ (b : List ℕ) (c : ℕ → ℕ) (m : List ℕ) {h e : ℕ} (light : (i : ℕ) → i < people b → c i ≤ h) (some : 0 < e) (short : largest * h < 10 ^ e) where
+  pub after-short :
+      (v : Verdict) → (v ≡ fine → checkMatching b m ≡ fine) → numberOf v ≤ 17 → length (sheetAfter v b c m) ≤ topMost e + pairMost e * largest
+  after-short fine f k =
+      let A = fine-stable b m .0 (f refl) .matching in
+      answers-short (A .formed) c light some short m (A .names)
+  after-short (refused number place second) f k =
+      omega (arith, refusal-short {k = number} (omega arith))
 
-pub sheet-short : (input : List ℕ) → length (sheetOf input) ≤ longest
-unfolding sheetOf
-sheet-short input = parts-short (bookPart input) (matchingPart input)
+-- a matching with weights is refused by 17 at most
+weighed-most : (b m k : List ℕ) → numberOf (checkWeighed b m k) ≤ 17
+unfolding checkWeights
+weighed-most b m k =
+    both-most 17 (checkMatching b m) _ (omega (arith, matching-most b m))
+    (most 17 (not (eqb (length k) (people b))) 17 0 fine (omega arith) (omega arith))
+
+-- No plain sheet is longer than the longest
+pub parts-short : (b m : List ℕ) → length (sheetFor b m) ≤ longest
+parts-short b m =
+    after-short b (λ i. 1) m {h = 1} {e = digits} (λ i u. omega arith) (omega arith) (omega arith) (checkMatching b m) (λ f. f)
+    (omega (arith, matching-most b m))
+
+-- and no weighted one, with weights of at most 1, and of at most 255
+pub even-short : (b m k : List ℕ) → ((i : ℕ) → weightOf k i ≤ 1) → length (weightedSheetFor b m k) ≤ longest
+even-short b m k light =
+    after-short b (weightOf k) m {h = 1} {e = digits} (λ i u. light i) (omega arith) (omega arith) (checkWeighed b m k)
+    (λ f. all-fine (checkMatching b m) _ f .0) (weighed-most b m k)
+
+pub weighted-short : (b m k : List ℕ) → ((i : ℕ) → weightOf k i ≤ 255) → length (weightedSheetFor b m k) ≤ weightedLongest
+weighted-short b m k light =
+    after-short b (weightOf k) m {h = 255} {e = totalDigits} (λ i u. light i) (omega arith) (omega arith) (checkWeighed b m k)
+    (λ f. all-fine (checkMatching b m) _ f .0) (weighed-most b m k)

@@ -10,9 +10,9 @@ use Rattle.format.specs.declared.verdict.Checked.the-variants.{Refused}
 use Rattle.format.specs.declared.verdict.Refusal.{Refusal}
 use Rattle.format.specs.Verdict.{Verdict, fine, verdictOf}
 use Rattle.format.specs.Format.{people, size}
-use Rattle.matchings.specs.Matching.{checkMatching}
+use Rattle.repairs.specs.Weights.{weightOf, checkWeighed}
 use Rattle.sheets.specs.Line.{refusedLine}
-use Rattle.sheets.specs.Sheet.{bookPart, matchingPart, answers, sheetAfter, sheetFor, sheetOf}
+use Rattle.sheets.specs.Sheet.{bookPart, matchingPart, weighedPart, weightsPart, answers, sheetAfter, sheetFor, weightedSheetFor, sheetOf, weightedSheetOf}
 
 -- the bytes past the end of the book
 abbrev pub rest : List ℕ → ℕ → List ℕ
@@ -36,14 +36,31 @@ module _ (input : List ℕ) {end : ℕ} (e : end ≡ min (size (people input)) (
   unfolding sheetOf
   sheet-parts = rw (book-part, matching-part)
 
-module _ (b m : List ℕ) where
+  -- of a weighted sheet the first n bytes of the rest are the matching, and what follows are the weights
+  module _ {n : ℕ} (q : n ≡ min (people input) (length (rest input end))) where
+    weighed-part : take n (rest input end) ≡ weighedPart input
+    weighed-part =
+        ap (λ (k : ℕ). take k (rest input end)) q ∙ take-most (rest input end) (people input) ∙ ap (take (people input)) matching-part
+
+    weights-part : rest (rest input end) n ≡ weightsPart input
+    weights-part =
+        take-rest (rest input end) n
+        ∙ ap (λ (k : ℕ). drop k (rest input end)) q
+        ∙ drop-most (rest input end) (people input)
+        ∙ ap (drop (people input)) matching-part
+
+    pub weighted-parts : weightedSheetOf input ≡ weightedSheetFor (take end input) (take n (rest input end)) (rest (rest input end) n)
+    unfolding weightedSheetOf
+    weighted-parts = rw (book-part, weighed-part, weights-part)
+
+module _ (b m k : List ℕ) where
   -- where the check refuses it is the line of the refusal
-  pub sheet-refusal : {k : Checked} {r : Refusal} → verdictOf k ≡ checkMatching b m → k ≡ Refused r →
-      sheetFor b m ≡ refusedLine (verdictOf k)
-  sheet-refusal {k} {r} f g =
+  pub sheet-refusal : {x : Checked} {r : Refusal} → verdictOf x ≡ checkWeighed b m k → x ≡ Refused r →
+      weightedSheetFor b m k ≡ refusedLine (verdictOf x)
+  sheet-refusal {x} {r} f g =
       let e = ap verdictOf g in
-      ap (λ (v : Verdict). sheetAfter v b m) (sym f ∙ e) ∙ sym (ap refusedLine e)
+      ap (λ (v : Verdict). sheetAfter v b (weightOf k) m) (sym f ∙ e) ∙ sym (ap refusedLine e)
 
   -- or, where nothing is refused, the answers
-  pub sheet-answers : checkMatching b m ≡ fine → sheetFor b m ≡ answers b m
-  sheet-answers f = ap (λ (v : Verdict). sheetAfter v b m) f
+  pub sheet-answers : checkWeighed b m k ≡ fine → weightedSheetFor b m k ≡ answers b (weightOf k) m
+  sheet-answers f = ap (λ (v : Verdict). sheetAfter v b (weightOf k) m) f

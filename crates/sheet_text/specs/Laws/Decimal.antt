@@ -1,7 +1,7 @@
 -- Laws of base ten: the digits of a number and of its tenth part, how many there are, that they are digits, that they
 -- read back as the number, and that none is a zero in front. Assumes nothing.
 use Prim.Native.Nat.{ℕ, zero, suc, _+_, _-_, _*_, _/_, _%_, _^_, _≤_, _<_}
-use mathlib.Core.Path.{_≡_, refl, sym, _∙_, ap}
+use mathlib.Core.Path.{_≡_, refl, sym, _∙_, ap, ap₂}
 use mathlib.Core.List.{List, [], _∷_, _++_}
 use native.Mathlib.Omega.{arith}
 use native.Mathlib.Nat.{pow-suc}
@@ -46,11 +46,13 @@ pub decimal-longer : (x : ℕ) → 10 ≤ x → length (decimal x) ≡ length (d
 decimal-longer x h = ap length (decimal-more x h) ∙ length-append (decimal (x / 10)) (digit (x % 10) ∷ [])
 
 -- two more than those of the hundredth part
-pub decimal-hundreds : (x : ℕ) → 100 ≤ x → decimal x ≡ (decimal (x / 100) ++ (digit (x / 10 % 10) ∷ [])) ++ (digit (x % 10) ∷ [])
+pub decimal-hundreds : (x : ℕ) → 100 ≤ x → decimal x ≡ (decimal (x / 100) ++ (digit (x % 100 / 10) ∷ [])) ++ (digit (x % 100 % 10) ∷ [])
 decimal-hundreds x h =
     let e : x / 10 / 10 ≡ x / 100 = omega arith in
+    let t : x / 10 % 10 ≡ x % 100 / 10 = omega arith in
+    let l : x % 10 ≡ x % 100 % 10 = omega arith in
     decimal-more x (omega arith)
-    ∙ ap (λ (d : List ℕ). d ++ (digit (x % 10) ∷ [])) (decimal-more (x / 10) (omega arith) ∙ ap (λ (y : ℕ). decimal y ++ (digit (x / 10 % 10) ∷ [])) e)
+    ∙ ap₂ (λ (d : List ℕ) (y : ℕ). d ++ (digit y ∷ [])) (decimal-more (x / 10) (omega arith) ∙ ap₂ (λ (z y : ℕ). decimal z ++ (digit y ∷ [])) e t) l
 
 pub hundreds-longer : (x : ℕ) → 100 ≤ x → length (decimal x) ≡ length (decimal (x / 100)) + 2
 hundreds-longer x h = ap length (decimal-hundreds x h) ∙ simp length-append (omega arith)
@@ -68,16 +70,17 @@ by-digits P one more (suc bound) x h =
 pub decimal-some : (x : ℕ) → 0 < length (decimal x)
 decimal-some x = by-digits (λ y d. 0 < length d) (λ y h. omega arith) (λ y h k. simp length-append (omega arith)) (suc x) x (omega arith)
 
--- at most k + 1 digits below 10 ^ (k + 1)
-pub decimal-short : (k x : ℕ) → x < 10 ^ suc k → length (decimal x) ≤ suc k
-decimal-short k x =
-    by-digits (λ y d. (j : ℕ) → y < 10 ^ suc j → length d ≤ suc j) (λ y h j l. omega arith) longer (suc x) x (omega arith) k
+-- at most e digits below 10 ^ e, where e is not 0
+pub decimal-short : (e x : ℕ) → 0 < e → x < 10 ^ e → length (decimal x) ≤ e
+decimal-short e x =
+    by-digits (λ y d. (j : ℕ) → 0 < j → y < 10 ^ j → length d ≤ j) (λ y h j some l. omega arith) longer (suc x) x (omega arith) e
   where
-    longer : (y : ℕ) → 10 ≤ y → ((j : ℕ) → y / 10 < 10 ^ suc j → length (decimal (y / 10)) ≤ suc j) → (j : ℕ) → y < 10 ^ suc j
-        → length (decimal (y / 10) ++ (digit (y % 10) ∷ [])) ≤ suc j
-    longer y h short zero l = absurd (omega arith)
-    longer y h short (suc j) l =
-        simp length-append (let s = short j (omega (arith, pow-suc 10 (suc j))) in omega arith)
+    longer : (y : ℕ) → 10 ≤ y → ((j : ℕ) → 0 < j → y / 10 < 10 ^ j → length (decimal (y / 10)) ≤ j) → (j : ℕ) → 0 < j → y < 10 ^ j
+        → length (decimal (y / 10) ++ (digit (y % 10) ∷ [])) ≤ j
+    longer y h short zero some l = absurd (omega arith)
+    longer y h short (suc zero) some l = absurd (omega arith)
+    longer y h short (suc (suc j)) some l =
+        simp length-append (let s = short (suc j) (omega arith) (omega (arith, pow-suc 10 (suc j))) in omega arith)
 
 -- each byte is that of a digit, 0 to 9
 pub decimal-digits : (x i : ℕ) → i < length (decimal x) → (48 ≤ getD (decimal x) i 0) × (getD (decimal x) i 0 ≤ 57)

@@ -1,9 +1,10 @@
 -- How long the lines are, and the lines of all pairs one after the other: what the loop that puts them knows. Assumes
 -- nothing.
-use Prim.Native.Nat.{ℕ, zero, suc, _+_, _-_, _*_, _≤_, _<_}
+use Prim.Native.Nat.{ℕ, zero, suc, _+_, _*_, _^_, _≤_, _<_}
 use mathlib.Core.Path.{_≡_, refl, sym, _∙_, ap}
 use mathlib.Core.List.{List, _++_}
 use native.Mathlib.Omega.{arith}
+use native.Mathlib.Nat.{mul-suc}
 use native.Mathlib.Numerals.{add-one}
 use lib.ListN.{length, length-append}
 use Rattle.laws.specs.Choice.{same}
@@ -11,7 +12,7 @@ use Rattle.laws.specs.Overwrite.{overwritten-none}
 use Rattle.format.specs.Format.{largest}
 use Rattle.sheets.specs.Decimal.{decimal}
 use Rattle.sheets.specs.Line.{line, topLine, pairLine, pairLines, refusalLine}
-use Rattle.sheets.specs.Longest.{digits, topMost, pairMost}
+use Rattle.sheets.specs.Longest.{digits}
 use Rattle.sheet_text.specs.Put.{Put}
 use Rattle.sheet_text.specs.Laws.Decimal.{decimal-short}
 use Rattle.sheet_text.specs.Laws.Put.{put-on, put-long}
@@ -31,20 +32,25 @@ refusal-length k = simp length-append (omega arith)
 
 -- the digits of a number up to the largest n, and up to its square
 few-digits : {x : ℕ} → x ≤ largest → length (decimal x) ≤ digits
-few-digits {x} h = decimal-short (digits - 1) x (omega arith)
+few-digits {x} h = decimal-short digits x (omega arith) (omega arith)
 
 square-digits : {x : ℕ} → x ≤ largest * largest → length (decimal x) ≤ 2 * digits
-square-digits {x} h = decimal-short (2 * digits - 1) x (omega arith)
+square-digits {x} h = decimal-short (2 * digits) x (omega arith) (omega arith)
 
--- so no line is too long, and a refusal with any byte for a number has at most 12
-pub top-short : {n r g : ℕ} → n ≤ largest → r ≤ largest * largest → g ≤ largest → length (topLine n r g) ≤ topMost
-top-short {n} {r} {g} a b c = omega (arith, top-length n r g, few-digits a, square-digits b, few-digits c)
+-- so no line is too long where the grade and the distances have at most e digits
+pub top-short :
+    {n r g : ℕ} (e : ℕ) → 0 < e → n ≤ largest → r ≤ largest * largest → g < 10 ^ e → length (topLine n r g) ≤ 3 * digits + e + 3
+top-short {n} {r} {g} e some a b c =
+    omega (arith, top-length n r g, few-digits a, square-digits b, decimal-short e g some c)
 
-pub pair-short : {s w : ℕ} (l : ℕ) {d : ℕ} → s ≤ largest → w ≤ largest → d ≤ largest → length (pairLine s w l d) ≤ pairMost
-pair-short {s} {w} l {d} a b c = omega (arith, pair-length s w l d, few-digits a, few-digits b, few-digits c)
+pub pair-short :
+    {s w : ℕ} (l : ℕ) {d : ℕ} (e : ℕ) → 0 < e → s ≤ largest → w ≤ largest → d < 10 ^ e → length (pairLine s w l d) ≤ 2 * digits + e + 5
+pair-short {s} {w} l {d} e some a b c =
+    omega (arith, pair-length s w l d, few-digits a, few-digits b, decimal-short e d some c)
 
+-- and a refusal with any byte for a number has at most 12 bytes
 pub refusal-short : {k : ℕ} → k < 1000 → length (refusalLine k) ≤ 12
-refusal-short {k} h = omega (arith, refusal-length k, decimal-short 2 k h)
+refusal-short {k} h = omega (arith, refusal-length k, decimal-short 3 k (omega arith) h)
 
 module _ (w l d : ℕ → ℕ) where
   -- one line more
@@ -61,20 +67,20 @@ module _ (w l d : ℕ → ℕ) where
       same k n (λ q. rw q (omega arith)) (λ ne. omega (arith, lines-within k n (omega arith)))
 
   -- k lines are at most k times as long as one can be
-  pub lines-short : (k : ℕ) → ((s : ℕ) → s < k → (s ≤ largest) × (w s ≤ largest) × (d s ≤ largest)) → length (pairLines w l d k) ≤ pairMost * k
+  pub lines-short :
+      (e : ℕ) → 0 < e → (k : ℕ) → ((s : ℕ) → s < k → (s ≤ largest) × (w s ≤ largest) × (d s < 10 ^ e)) →
+      length (pairLines w l d k) ≤ (2 * digits + e + 5) * k
   unfolding pairLines
-  lines-short zero h = omega arith
-  lines-short (suc k) h =
+  lines-short e some zero h = omega arith
+  lines-short e some (suc k) h =
       let u = h k (omega arith) in
-      omega (arith, length-append (pairLines w l d k) (pairLine k (w k) (l k) (d k)), pair-short (l k) (u .0) (u .1) (u .2), lines-short k (λ s v. h s (omega arith)))
-
--- equal fields, equal lines
-pub lines-same : {w l d v m e : ℕ → ℕ} (k : ℕ) → ((s : ℕ) → s < k → (w s ≡ v s) × (l s ≡ m s) × (d s ≡ e s)) → pairLines w l d k ≡ pairLines v m e k
-unfolding pairLines
-lines-same zero h = refl
-lines-same {w} {l} {d} {v} {m} {e} (suc k) h =
-    let u = h k (omega arith) in
-    rw (u .0, u .1, u .2, lines-same {w = w} {l = l} {d = d} {v = v} {m = m} {e = e} k (λ s r. h s (omega arith)))
+      omega (
+        arith,
+        length-append (pairLines w l d k) (pairLine k (w k) (l k) (d k)),
+        pair-short (l k) e some (u .0) (u .1) (u .2),
+        lines-short e some k (λ s v. h s (omega arith)),
+        mul-suc (2 * digits + e + 5) k,
+      )
 
 -- What the loop that puts the lines knows after k of them: they stand in the buffer, and there is room for the rest
 pub record LinesPut (w l d : ℕ → ℕ) (n : ℕ) (out : List ℕ) (at k : ℕ) (now : List ℕ) (j : ℕ) : Type 0 where

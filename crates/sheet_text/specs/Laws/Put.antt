@@ -29,6 +29,10 @@ put-front {l} {vs} e f =
     let q : length vs ≡ 0 + length vs = omega arith in
     record { next = e ∙ q; bytes = f ∙ ap₂ (λ (p : List ℕ) (k : ℕ). p ++ drop k l) (take-length vs) q }
 
+-- the same bytes by another name
+pub put-as : {l : List ℕ} {i : ℕ} {vs ws m : List ℕ} {j : ℕ} → vs ≡ ws → Put l i vs m j → Put l i ws m j
+put-as e P = rw (← e) P
+
 -- what was put at the front stands there
 pub put-take : {l vs m : List ℕ} {j : ℕ} → Put l 0 vs m j → take j m ≡ vs
 put-take {l} {vs} {m} {j} P = ap (take j) (P .bytes) ∙ take-at vs (drop (0 + length vs) l) j (omega (arith, P .next))
@@ -37,14 +41,14 @@ put-take {l} {vs} {m} {j} P = ap (take j) (P .bytes) ∙ take-at vs (drop (0 + l
 pub put-digit : {l : List ℕ} {i x : ℕ} {m : List ℕ} {j : ℕ} → x < 10 → Put l i (digit x ∷ []) m j → Put l i (decimal x) m j
 put-digit {x = x} h P = rw (decimal-digit x h) P
 
--- of a number below 100: that of its tenth part, and the last one
-pub put-tens : {l : List ℕ} {i x : ℕ} {m n : List ℕ} {j k : ℕ} → 10 ≤ x → x < 100 → i ≤ length l →
-    Put l i (digit (x / 10) ∷ []) m j → Put m j (digit (x % 10) ∷ []) n k → Put l i (decimal x) n k
-put-tens {x = x} h g u P Q = rw (decimal-more x h) (put-on (put-digit {x = x / 10} (omega arith) P) u Q)
+-- of a number from 10 on: those of its tenth part, and the last one
+pub put-tens : {l : List ℕ} {i x : ℕ} {m n : List ℕ} {j k : ℕ} → 10 ≤ x → i ≤ length l →
+    Put l i (decimal (x / 10)) m j → Put m j (digit (x % 10) ∷ []) n k → Put l i (decimal x) n k
+put-tens {x = x} h u P Q = rw (decimal-more x h) (put-on P u Q)
 
 -- and of a number from 100 on: those of its hundredth part, and the last two
 pub put-hundreds : {l : List ℕ} {i x : ℕ} {a b c : List ℕ} {j k e : ℕ} → 100 ≤ x → i ≤ length l →
-    Put l i (decimal (x / 100)) a j → Put a j (digit (x / 10 % 10) ∷ []) b k → Put b k (digit (x % 10) ∷ []) c e → Put l i (decimal x) c e
+    Put l i (decimal (x / 100)) a j → Put a j (digit (x % 100 / 10) ∷ []) b k → Put b k (digit (x % 100 % 10) ∷ []) c e → Put l i (decimal x) c e
 put-hundreds {x = x} h u P Q R = rw (decimal-hundreds x h) (put-on (put-on P u Q) u R)
 
 -- the buffer is as long as it was

@@ -1,30 +1,33 @@
--- Of two stable matchings one of which is before the other as many proposers move as receivers. Assumes nothing.
+-- Of two stable matchings the receivers who move weigh as much as the proposers who move, where each receiver has the
+-- weight of the proposer who holds her in the first. Assumes nothing.
 use Prim.Native.Nat.{ℕ, _≤_, _<_}
 use mathlib.Core.Path.{_≡_, sym, _∙_}
 use mathlib.Core.Bool.{true}
 use native.Mathlib.Omega.{arith}
-use Rattle.laws.specs.Sum.{count}
-use Rattle.laws.specs.SumLaws.{sum-passed}
-use Rattle.laws.specs.CountInto.{count-into}
+use Rattle.laws.specs.Choice.{split}
+use Rattle.laws.specs.CountInto.{sum-into}
 use Rattle.stable_theory.specs.Stable.Market.{Market, Proper, exchange, exchanged}
-use Rattle.stable_theory.specs.Stable.Vector.{Holds, Stable, Before, Mirror}
+use Rattle.stable_theory.specs.Stable.Vector.{Holds, Stable, Mirror}
 use Rattle.stable_theory.specs.Stable.Holding.{hold-at, holder-unique}
-use Rattle.stable_theory.specs.Stable.Mirror.{mirror-back, mirror-order, stable-across}
-use Rattle.stable_theory.specs.Repairs.Repair.{moved, distance}
+use Rattle.stable_theory.specs.Stable.Lattice.{placed-too}
+use Rattle.stable_theory.specs.Stable.Mirror.{mirror-back, stable-across}
+use Rattle.stable_theory.specs.Repairs.Repair.{moved, weight}
 use Rattle.stable_theory.specs.Repairs.Moves.{moved-true, moved-moved}
 
--- whoever is moved from p to k is moved from k to p
-moved-back : (n : ℕ) (p k : ℕ → ℕ) → count n (moved p k) ≤ count n (moved k p)
-moved-back n p k =
-    sum-passed n (moved p k) (moved k p) (λ i. 1) (λ i u e. moved-moved k p (λ z. moved-true p k e (sym z)))
+-- Each receiver has the weight of the proposer who holds her
+pub record Carried (I : Market) (p c d : ℕ → ℕ) : Type 0 where
+  pub carried : {i w : ℕ} → Holds I p i w → c i ≡ d w
 
--- p and v are stable, p before v, and t and u are their other sides
-module _ {I : Market} (M : Proper I) {p v t u : ℕ → ℕ} (P : Stable I p) (N : Stable I v) (X : Mirror I p t) (Y : Mirror I v u) (le : Before I p v) where
-  -- whoever is moved on is placed in p
+-- p and v are stable, and t and u are their other sides
+module _ {I : Market} (M : Proper I) {p v t u : ℕ → ℕ} (P : Stable I p) (N : Stable I v) (X : Mirror I p t) (Y : Mirror I v u) where
+  -- whoever is moved is placed in p: who is placed in neither is at the end of his list in both
   moved-holds : {i : ℕ} → i < I .proposers .size → moved p v i ≡ true → Holds I p i (I .proposers .at i (p i))
   moved-holds {i} l e =
-      let ne = moved-true p v e in
-      hold-at M p l (omega (arith, le i l, N .settled .within .bound l, ne))
+      split (I .proposers .len i) (p i)
+      (λ off. split (I .proposers .len i) (v i)
+      (λ end. absurd (moved-true p v e (omega (arith, P .settled .within .bound l, N .settled .within .bound l))))
+      (λ on. let h = placed-too M N P (hold-at M v l on) in absurd (omega (arith, h .1 .is, h .1 .pair .lists))))
+      (λ on. hold-at M p l on)
 
   -- and his receiver is moved: she had him and has him no more
   moved-receiver : {i w : ℕ} → Holds I p i w → moved p v i ≡ true → moved t u w ≡ true
@@ -35,25 +38,23 @@ module _ {I : Market} (M : Proper I) {p v t u : ℕ → ℕ} (P : Stable I p) (N
       let k : Holds (exchange I) u w i = record { pair = g .pair; is = z ∙ g .is } in
       moved-true p v e (Y .back k .is ∙ sym (h .is)))
 
-  -- so no fewer receivers move than proposers
-  moved-proposers : count (I .proposers .size) (moved p v) ≤ count (I .receivers .size) (moved t u)
-  moved-proposers =
-      count-into (I .proposers .size) (I .receivers .size) (moved p v) (moved t u) (λ i. I .proposers .at i (p i))
+  -- so the receivers who move weigh no less than the proposers
+  moved-proposers : {c d : ℕ → ℕ} → Carried I p c d → weight I c p v ≤ weight (exchange I) d t u
+  unfolding weight
+  moved-proposers {c} {d} C =
+      sum-into (I .proposers .size) (I .receivers .size) (moved p v) (moved t u) c d (λ i. I .proposers .at i (p i))
       (record {
         low = λ i l e. moved-holds l e .pair .receiver;
         passes = λ i l e. moved-receiver (moved-holds l e) e;
         apart = λ i j l m e f g. holder-unique M (P .settled) (moved-holds l e) (rw (← g) at (moved-holds m f));
       })
+      (λ i l e. omega (arith, C .carried (moved-holds l e)))
 
--- and no fewer proposers than receivers: the same seen from the other side
-module _ {I : Market} (M : Proper I) {p v t u : ℕ → ℕ} (P : Stable I p) (N : Stable I v) (X : Mirror I p t) (Y : Mirror I v u) (le : Before I p v) where
-  pub moved-both : count (I .proposers .size) (moved p v) ≡ count (I .receivers .size) (moved t u)
-  moved-both =
-      let there = moved-proposers M P N X Y le in
-      let back = moved-proposers (exchanged M) (stable-across M Y N) (stable-across M X P) (mirror-back Y) (mirror-back X) (mirror-order M X Y N le) in
-      omega (arith, moved-back (I .receivers .size) t u, moved-back (I .proposers .size) v p)
-
-  -- the distance is the same on both sides
-  pub distance-both : distance I p v ≡ distance (exchange I) t u
-  unfolding distance
-  distance-both = moved-both
+-- and no more: the same seen from the other side
+pub weight-both :
+    {I : Market} → Proper I → {p v t u : ℕ → ℕ} → Stable I p → Stable I v → Mirror I p t → Mirror I v u → {c d : ℕ → ℕ} →
+    Carried I p c d → weight I c p v ≡ weight (exchange I) d t u
+weight-both M P N X Y C =
+    let there = moved-proposers M P N X Y C in
+    let back = moved-proposers (exchanged M) (stable-across M X P) (stable-across M Y N) (mirror-back X) (mirror-back Y) (record { carried = λ h. sym (C .carried (X .back h)) }) in
+    omega arith

@@ -28,7 +28,7 @@ up c = search
 
 -- the number is one of a man
 numbered : (c : tie.After-wide) → c .wide .result < start c .args .n
-numbered c = omega (arith, c .wide .ensures .0, start c .pre .1)
+numbered c = omega (arith, c .wide .ensures .0, start c .pre .0 .1)
 
 -- a push leaves arrays
 long-up : (c : tie.After-pushed) → length (c .pushed .result .receivers) ≡ largest
@@ -38,21 +38,21 @@ long-down : (c : tie.After-pushed2) → length (c .pushed2 .result .proposers) �
 long-down c = search needs
 
 list-at-requires : tie.Need-list-at-requires
-list-at-requires c κs = let m = man c in place-index (start m .pre .0) (numbered m) (c .wide2 .ensures .0)
+list-at-requires c κs = let m = man c in place-index (start m .pre .0 .0) (numbered m) (c .wide2 .ensures .0)
 
 pushed-requires : tie.Need-pushed-requires
 pushed-requires c κs =
     let m = man (place c) in
     let s = start m in
-    let G = s .pre .0 in
-    ((G .by-women, omega (arith, G .few, s .good)), women-pushable G (numbered m) (place c .wide2 .ensures .0) (c .list-at .ensures .0))
+    let G = s .pre .0 .0 in
+    ((G .by-women, omega (arith, G .few, s .good)), (women-pushable G (numbered m) (place c .wide2 .ensures .0) (c .list-at .ensures .0), (s .pre .1 .women, omega arith)))
 
 pushed-requires-2 : tie.Need-pushed-requires-2
 pushed-requires-2 c κs =
     let m = man (place (woman c)) in
     let s = start m in
-    let G = s .pre .0 in
-    ((G .by-men, omega (arith, G .few, s .good)), men-pushable G (numbered m))
+    let G = s .pre .0 .0 in
+    ((G .by-men, omega (arith, G .few, s .good)), (men-pushable G (numbered m), (s .pre .1 .men, c .pushed .ensures .most)))
 
 returns : tie.Need-returns
 returns c =
@@ -60,7 +60,7 @@ returns c =
     let w = woman (up d) in
     let m = man (place w) in
     rw (← m .wide .ensures .0)
-    (says-down (start m .pre .0) (numbered m) (place w .wide2 .ensures .0) (w .list-at .ensures .0) (up d .pushed .ensures) (d .pushed2 .ensures)
+    (says-down (start m .pre .0 .0) (numbered m) (place w .wide2 .ensures .0) (w .list-at .ensures .0) (start m .pre .1) (up d .pushed .ensures) (d .pushed2 .ensures)
     (λ i v. refl) (long-down d) (c .before .if1 .taken))
 
 returns-2 : tie.Need-returns-2
@@ -69,7 +69,7 @@ returns-2 c =
     let w = woman (up d) in
     let m = man (place w) in
     rw (← m .wide .ensures .0)
-    (says-fixed (start m .pre .0) (numbered m) (place w .wide2 .ensures .0) (w .list-at .ensures .0) (up d .pushed .ensures) (d .pushed2 .ensures)
+    (says-fixed (start m .pre .0 .0) (numbered m) (place w .wide2 .ensures .0) (w .list-at .ensures .0) (start m .pre .1) (up d .pushed .ensures) (d .pushed2 .ensures)
     (omega (arith, start m .good)) (c .before .if1 .left) (c .if2 .taken))
 
 returns-3 : tie.Need-returns-3
@@ -78,7 +78,7 @@ returns-3 c =
     let w = woman (up d) in
     let m = man (place w) in
     rw (← m .wide .ensures .0)
-    (says-up (start m .pre .0) (numbered m) (place w .wide2 .ensures .0) (w .list-at .ensures .0) (up d .pushed .ensures) (d .pushed2 .ensures)
+    (says-up (start m .pre .0 .0) (numbered m) (place w .wide2 .ensures .0) (w .list-at .ensures .0) (start m .pre .1) (up d .pushed .ensures) (d .pushed2 .ensures)
     (λ i v. refl) (long-up (up d)) (c .before .before .if1 .left) (c .before .if2 .left))
 
 pub nearest-spec : {M : Type 1} → statement M
@@ -87,10 +87,9 @@ nearest-spec =
     (tie.spec
     (λ c κs. search needs)
     (λ c. search needs)
-    (λ c. omega (arith, numbered c, start c .pre .0 .few))
+    (λ c. omega (arith, numbered c, start c .pre .0 .0 .few))
     (λ c κs. search needs)
     list-at-requires
-    (λ c. search needs)
     pushed-requires
     pushed-requires-2
     returns

@@ -7,15 +7,15 @@ use Rattle.nearest.specs.Laws.Pushing.{front-sized, front-pushable, fron
 use Rattle.nearest.proofs.pushes.pushed.Statement.{statement}
 use Rattle.nearest.proofs.pushes.pushed.Tie as tie
 
-push-count-requires : tie.Need-push-count-requires
-push-count-requires c κs =
+push-weight-requires : tie.Need-push-weight-requires
+push-weight-requires c κs =
     let s : tie.Start = search in
     let T = s .pre .0 .0 in
-    (T, ((front-sized (T .proper) _ _ (omega (arith, s .good)), refl), front-pushable (T .proper) _ _ (omega (arith, s .good)) (s .pre .1)))
+    (T, ((front-sized (T .proper) _ _ (omega (arith, s .good)), refl), (front-pushable (T .proper) _ _ (omega (arith, s .good)) (s .pre .1 .0), (s .pre .1 .1 .0, omega (arith, s .pre .1 .1 .1)))))
 
 returns : tie.Need-returns
 returns c =
-    let d : tie.After-push-count = search in
+    let d : tie.After-push-weight = search in
     let s : tie.Start = search in
     search (front-tries (s .pre .0 .0 .proper) (s .args .t5) (s .args .t) (omega (arith, s .good)))
 
@@ -29,5 +29,5 @@ pushed-spec =
     (λ c. let s : tie.Start = search in simp length-take (omega (arith, s .good)))
     (λ c. search needs)
     (λ c. let s : tie.Start = search in simp length-take (omega (arith, s .good)))
-    push-count-requires
+    push-weight-requires
     returns)

@@ -21,7 +21,7 @@ measure-requires c κs =
     let g : tie.After-group = search in
     let G = start g .pre .0 .1 in
     let W = g .group .ensures in
-    (G, (W .ups, record { downs = omega (arith, G .few, W .down-long); ups = omega (arith, G .few, W .up-long); aboves = G .few; belows = G .few }))
+    ((G, start g .pre .0 .2), (W .ups, record { downs = omega (arith, G .few, W .down-long); ups = omega (arith, G .few, W .up-long); aboves = G .few; belows = G .few }))
 
 fill-answers-requires : tie.Need-fill-answers-requires
 fill-answers-requires c κs =
@@ -44,7 +44,8 @@ grade-of-requires : tie.Need-grade-of-requires
 grade-of-requires c κs =
     let l : tie.After-distances = search in
     let f : tie.After-fill-answers = search in
-    omega (arith, l .distances .given, start (grouped (measured f)) .pre .1 .1)
+    let s = start (grouped (measured f)) in
+    (omega (arith, l .distances .given, s .pre .1 .1), s .pre .0 .2 .men .long)
 
 returns : tie.Need-returns
 returns c =
@@ -54,7 +55,7 @@ returns c =
     let m = measured f in
     let g = grouped m in
     let s = start g in
-    pairs-answered (s .pre .0 .1) (g .group .ensures) _ _ (m .measure .ensures) (f .fill-answers .ensures)
+    pairs-answered (s .pre .0 .1) (s .pre .0 .2) (g .group .ensures) _ _ (m .measure .ensures) (f .fill-answers .ensures)
     (omega (arith, l .before .before .letters .given, s .pre .1 .0)) (omega (arith, l .distances .given, s .pre .1 .1)) (r .grade-of .ensures)
 
 pub answer-pairs-spec : {M : Type 1} → statement M

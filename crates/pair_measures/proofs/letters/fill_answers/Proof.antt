@@ -31,8 +31,8 @@ loop-again c =
     let I = l .loop .inv in (
       filled-on (l .loop .letters) (l .loop .distances) (I .0) (omega (arith, s .pre .letters-long, I .1, t .loop-test .taken))
           (omega (arith, s .pre .distances-long, I .2, t .loop-test .taken))
-          (k .letter .ensures ∙ ap₂ (filledLetter (s .args .n)) (u .lead-far2 .ensures) (d .lead-far .ensures))
-          (c .far .ensures ∙ ap₂ (filledDistance (s .args .n)) (u .lead-far2 .ensures) (d .lead-far .ensures)),
+          (k .letter .ensures ∙ ap₂ filledLetter (u .lead-far2 .ensures) (d .lead-far .ensures))
+          (c .far .ensures ∙ ap₂ filledDistance (u .lead-far2 .ensures) (d .lead-far .ensures)),
       simp length-set (I .1),
       simp length-set (I .2),
       omega arith,

@@ -13,4 +13,4 @@ alone c = let w : tie.After-wide = search in rw (← w .wide .ensures .0, le-ltb
 pub lead-far-spec : {M : Type 1} → statement M
 lead-far-spec =
     tie.close
-    (tie.spec (λ c κs. search needs) (λ c. search needs) (λ c. search needs) (λ c. search needs) led alone)
+    (tie.spec (λ c κs. search needs) (λ c. search needs) (λ c. search needs) led alone)

@@ -22,7 +22,7 @@ bound-down-requires c κs =
     let a : tie.After-measure-up = search in
     let s = start a in
     let P = s .pre in
-    let few = P .0 .few in
+    let few = P .0 .0 .few in
     let M = P .1 .1 in
     record {
       few = omega (arith, few);
@@ -38,8 +38,8 @@ measure-down-requires : tie.Need-measure-down-requires
 measure-down-requires c κs =
     let b : tie.After-bound2 = search in
     let P = start (above (b .before)) .pre in
-    let few = P .0 .few in
-    (P .0, ((P .1 .1 .downs, omega (arith, few, b .bound2 .given), P .1 .1 .belows), λ s u. b .before .bound-down .ensures .most u))
+    let few = P .0 .0 .few in
+    ((P .0 .0, P .0 .1 .men), ((P .1 .1 .downs, omega (arith, few, b .bound2 .given), P .1 .1 .belows), λ s u. b .before .bound-down .ensures .most u))
 
 returns : tie.Need-returns
 returns c =

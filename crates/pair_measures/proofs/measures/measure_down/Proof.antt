@@ -16,20 +16,20 @@ use Rattle.pair_measures.proofs.measures.measure_down.Statement.{statem
 use Rattle.pair_measures.proofs.measures.measure_down.Tie as tie
 
 abbrev Inv-loop : tie.InvT-loop
-Inv-loop n mlists mranks wlists wranks men women down bound below₀ s₀ below s =
-    Measured (marketOf n n mlists wlists) (vec men) s (IsDown (marketOf n n mlists wlists) (vec men)) (vec down) (vec bound) (vec below)
+Inv-loop n mlists mranks wlists wranks men women weights down bound below₀ s₀ below s =
+    Measured (marketOf n n mlists wlists) (vec weights) (vec men) s (IsDown (marketOf n n mlists wlists) (vec men)) (vec down) (vec bound) (vec below)
     × (length below ≡ length below₀)
     × (s ≤ n)
 
 abbrev μ-loop : tie.MeasureT-loop
-μ-loop n mlists mranks wlists wranks men women down bound below₀ s₀ below s = n - s
+μ-loop n mlists mranks wlists wranks men women weights down bound below₀ s₀ below s = n - s
 
 pushed-requires : tie.Need-pushed-requires Inv-loop μ-loop
 pushed-requires c κs =
     let s : tie.Start Inv-loop μ-loop = search in
     let t : tie.In-loop Inv-loop μ-loop = search in
-    let G = s .pre .0 in
-    ((G .by-men, omega (arith, G .few, s .good)), men-pushable G (t .loop-test .taken))
+    let G = s .pre .0 .0 in
+    ((G .by-men, omega (arith, G .few, s .good)), (men-pushable G (t .loop-test .taken), (s .pre .0 .1, s .pre .1 .1 _ (t .loop-test .taken))))
 
 loop-again : tie.Need-loop-again Inv-loop μ-loop
 loop-again c =

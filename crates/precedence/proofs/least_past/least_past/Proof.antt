@@ -1,17 +1,21 @@
 -- `least_past` meets its contract: the first man is pushed on the fronts of the arrays. Assumes nothing.
+use Prim.Native.Nat.{ℕ}
 use mathlib.Core.Path.{_≡_, sym, _∙_}
 use native.Mathlib.Omega.{arith}
-use lib.ListN.{take}
+use lib.ListN.{take, length-replicate}
 use borrow.Author.Needs.{needs}
 use Rattle.laws.specs.Padded.{zeros-front}
+use Rattle.format.specs.Format.{largest}
 use Rattle.tables.specs.Lists.{Sized}
+use Rattle.pushing.specs.Push.{Weighed}
+use Rattle.weights.specs.Laws.Ones.{ones, ones-light}
 use Rattle.precedence.specs.ListRead.{firstMan}
 use Rattle.precedence.specs.Laws.LeastPast.{best-sized, best-pushable, least-back}
 use Rattle.precedence.proofs.least_past.least_past.Statement.{statement}
 use Rattle.precedence.proofs.least_past.least_past.Tie as tie
 
 -- from the call of the pushes to what they start from
-abbrev best : tie.After-was → tie.After-man-optimal-places
+abbrev best : tie.After-weights → tie.After-man-optimal-places
 best c = search
 
 abbrev man : tie.After-man-optimal-places → tie.After-wide
@@ -24,7 +28,7 @@ start c = search
 numbered : (c : tie.After-wide) → let a = start c .args in c .wide .result ≡ firstMan (a .list .now) (a .at)
 numbered c = let m : tie.After-first-man = search in c .wide .ensures .0 ∙ m .first-man .ensures
 
-abbrev called : tie.After-push-to → tie.After-was
+abbrev called : tie.After-push-to → tie.After-weights
 called c = search
 
 -- the lent fronts have a place for each person
@@ -38,7 +42,8 @@ push-to-requires c κs =
     let s = start (man b) in
     let U = s .pre .0 in
     let S = s .pre .1 .1 in
-    (U .men, ((sized b, zeros-front (U .few)), best-pushable (U .men) (U .few) (b .man-optimal-places .ensures) (numbered (man b)) (g .place-after .ensures) (s .pre .1 .0 .man) S))
+    let W : Weighed (s .args .n) ones = record { long = omega (arith, U .few, length-replicate {A = ℕ} largest 1); light = λ {i} u. omega (arith, ones-light i) } in
+    (U .men, ((sized b, zeros-front (U .few)), ((W, omega (arith, U .few)), best-pushable (U .men) (U .few) (b .man-optimal-places .ensures) (numbered (man b)) (g .place-after .ensures) (s .pre .1 .0 .man) S)))
 
 returns : tie.Need-returns
 returns c =
@@ -64,5 +69,6 @@ least-past-spec =
     (λ c. let b : tie.After-man-optimal-places = search in sym (sized b .bests))
     (λ c. search needs)
     (λ c. let b : tie.After-man-optimal-places = search in sym (zeros-front (start (man b) .pre .0 .few)))
+    (λ c. search needs)
     push-to-requires
     returns)

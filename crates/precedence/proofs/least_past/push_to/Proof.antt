@@ -12,11 +12,11 @@ use Rattle.precedence.proofs.least_past.push_to.Statement.{statement}
 use Rattle.precedence.proofs.least_past.push_to.Tie as tie
 
 abbrev Inv-loop : tie.InvT-loop
-Inv-loop a b plists rlists ranks p₀ t₀ was₀ s goal p t was =
+Inv-loop a b plists rlists ranks p₀ t₀ was₀ weights s goal p t was =
     Sized a b p t × PushableTo (marketOf a b plists rlists) (vec p) (vec t) s goal × (length was ≡ a)
 
 abbrev μ-loop : tie.MeasureT-loop
-μ-loop a b plists rlists ranks p₀ t₀ was₀ s goal p t was = goal - vec p s
+μ-loop a b plists rlists ranks p₀ t₀ was₀ weights s goal p t was = goal - vec p s
 
 -- from the test to the loop, and to the function's entry
 abbrev at-loop : tie.After-wide Inv-loop μ-loop → tie.At-loop Inv-loop μ-loop
@@ -48,7 +48,7 @@ push-requires c κs =
     let t : tie.Then1 Inv-loop μ-loop = search in
     let l = at-loop (t .before) in
     let y : tie.After-copy-places Inv-loop μ-loop = search in
-    (start l .pre .0, ((l .loop .inv .0, y .copy-places .ensures), push-able (l .loop .inv .1) (before t)))
+    (start l .pre .0, ((l .loop .inv .0, y .copy-places .ensures), (push-able (l .loop .inv .1) (before t), start l .pre .1 .1 .0)))
 
 loop-less : tie.Need-loop-less Inv-loop μ-loop
 loop-less c =
@@ -86,7 +86,7 @@ push-to-spec =
     (tie.spec
     Inv-loop
     μ-loop
-    (λ c. let s : tie.Start Inv-loop μ-loop = search in (s .pre .1 .0 .0, s .pre .1 .1, s .pre .1 .0 .1))
+    (λ c. let s : tie.Start Inv-loop μ-loop = search in (s .pre .1 .0 .0, s .pre .1 .1 .1, s .pre .1 .0 .1))
     (λ c. omega arith)
     slice-read-wide
     (λ c κs. tt)

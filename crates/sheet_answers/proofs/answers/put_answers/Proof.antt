@@ -21,14 +21,15 @@ put-top-requires c κs =
     let a : tie.After-answer-pairs = search in
     let A = a .answer-pairs .ensures in
     let U = start a .pre .0 .0 in
-    (top-fits A _ (start a .pre .1 .1), size-short U, rotations-short U (A .all-rotations), grade-short U A)
+    let B = start a .pre .0 .2 .men in
+    (top-fits A _ (start a .pre .1 .1), size-short U, rotations-short U (A .all-rotations), grade-short U (λ i u. B .light u) A)
 
 put-pairs-requires : tie.Need-put-pairs-requires
 put-pairs-requires c κs =
     let t : tie.After-put-top = search in
     let a : tie.After-answer-pairs = search in
     let A = a .answer-pairs .ensures in
-    (pairs-given (start a .pre .0 .0) A (start a .pre .1 .0), pairs-fit A _ (t .put-top .ensures) (start a .pre .1 .1))
+    (pairs-given (start a .pre .0 .0) (λ i u. start a .pre .0 .2 .men .light u) A (start a .pre .1 .0), pairs-fit A _ (t .put-top .ensures) (start a .pre .1 .1))
 
 returns : tie.Need-returns
 returns c =

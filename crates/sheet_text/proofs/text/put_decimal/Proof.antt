@@ -6,8 +6,8 @@ use Rattle.sheet_text.specs.Laws.Put.{put-hundreds}
 use Rattle.sheet_text.proofs.text.put_decimal.Statement.{statement}
 use Rattle.sheet_text.proofs.text.put_decimal.Tie as tie
 
-put-two-requires-2 : tie.Need-put-two-requires-2
-put-two-requires-2 c κs =
+put-three-requires : tie.Need-put-three-requires
+put-three-requires c κs =
     let s : tie.Start = search in
     let e : tie.Else1 = search in
     (omega (arith, hundreds-longer (s .args .x) (e .if1 .left)), omega arith)
@@ -28,9 +28,9 @@ returns-2 : tie.Need-returns-2
 returns-2 c =
     let l : tie.After-put-digit2 = search in
     let d : tie.After-put-digit = search in
-    let h : tie.After-put-two2 = search in
+    let h : tie.After-put-three = search in
     let e : tie.Else1 = search in
-    put-hundreds (e .if1 .left) (omega arith) (h .put-two2 .ensures) (d .put-digit .ensures) (l .put-digit2 .ensures)
+    put-hundreds (e .if1 .left) (omega arith) (h .put-three .ensures) (d .put-digit .ensures) (l .put-digit2 .ensures)
 
 pub put-decimal-spec : {M : Type 1} → statement M
 put-decimal-spec =
@@ -39,7 +39,7 @@ put-decimal-spec =
     (λ c κs. search needs)
     (λ c. search needs)
     (λ c. search needs)
-    put-two-requires-2
+    put-three-requires
     put-digit-requires
     put-digit-requires-2
     (λ c. search needs)

@@ -27,7 +27,7 @@ returns-2 c =
     let l : tie.After-put-digit3 = search in
     let d : tie.After-put-digit2 = search in
     let e : tie.Else1 = search in
-    put-tens (e .if1 .left) (omega arith) (omega arith) (d .put-digit2 .ensures) (l .put-digit3 .ensures)
+    put-tens (e .if1 .left) (omega arith) (put-digit (omega arith) (d .put-digit2 .ensures)) (l .put-digit3 .ensures)
 
 pub put-two-spec : {M : Type 1} → statement M
 put-two-spec =

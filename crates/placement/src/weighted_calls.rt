@@ -1,0 +1,51 @@
+// Repairs, the grade and the sheet with a weight for each student.
+use replies::Reply;
+use replies::answer_reply;
+use replies::count_reply;
+use replies::grade_reply;
+ghost use mathlib.Core.Path.{_≡_};
+ghost use lib.ListN.{length};
+ghost use Rattle.laws.specs.Moment.{now₀, now₁};
+ghost use Rattle.repairs.specs.Repair.{weightedReply, weightedMatching, weightedGains};
+ghost use Rattle.repairs.specs.Grade.{weightedGrade};
+ghost use Rattle.sheets.specs.Reply.{weightedSheetReply, weightedSheetBuffer};
+ghost use Rattle.replies.specs.Replies.{numberReply, letterReply};
+
+// The repair of one pair, with its matching and the places gained.
+#[no_mangle]
+pub extern "C" fn placement_weighted_repair(
+    book: &[u8],
+    matching: &[u8],
+    weights: &[u8],
+    request: &[u8],
+    out: &mut [u8],
+    gains: &mut [i8],
+) -> Reply
+    ensures answer { λ r. ⌜ r ≡ letterReply (weightedReply (now₀ book) (now₀ matching) (now₀ weights) (now₀ request) (now₀ out)
+        (now₀ gains)) ⌝ }
+    ensures bytes { λ _. ⌜ now₁ out ≡ weightedMatching (now₀ book) (now₀ matching) (now₀ weights) (now₀ request) (now₀ out)
+        (now₀ gains) ⌝ }
+    ensures places { λ _. ⌜ now₁ gains ≡ weightedGains (now₀ book) (now₀ matching) (now₀ weights) (now₀ request) (now₀ out)
+        (now₀ gains) ⌝ }
+{
+    let answer = repair::weighted_repair(book, matching, weights, request, out, gains);
+    answer_reply(answer)
+}
+
+// The grade of a stable matching.
+#[no_mangle]
+pub extern "C" fn placement_weighted_grade(book: &[u8], matching: &[u8], weights: &[u8]) -> Reply
+    ensures { λ r. ⌜ r ≡ numberReply (weightedGrade (now₀ book) (now₀ matching) (now₀ weights)) ⌝ }
+{
+    grade_reply(grade::weighted_grade(book, matching, weights))
+}
+
+// Writes the sheet of a book with a matching and weights after it.
+#[no_mangle]
+pub extern "C" fn placement_weighted_sheet(input: &[u8], out: &mut [u8]) -> Reply
+    ensures answer { λ r. ⌜ r ≡ numberReply (weightedSheetReply (now₀ input) (length (now₀ out))) ⌝ }
+    ensures bytes { λ _. ⌜ now₁ out ≡ weightedSheetBuffer (now₀ input) (now₀ out) ⌝ }
+{
+    let counted = sheet_lines::write_weighted_sheet(input, out);
+    count_reply(counted)
+}

@@ -1,0 +1,52 @@
+-- `repair` meets its contract: with a weight of 1 for each student the weighted reply is the plain one. Assumes nothing.
+use Prim.Native.Nat.{_≤_}
+use mathlib.Core.Path.{_≡_, sym, _∙_}
+use native.Mathlib.Omega.{arith}
+use denote.Ref.{now}
+use lib.ListN.{take}
+use borrow.Author.Needs.{needs}
+use Rattle.format.specs.Format.{largest}
+use Rattle.repairs.specs.Laws.Even.{even-reply, even-matching, even-gains}
+use Rattle.weights.specs.Laws.Ones.{ones, ones-length, ones-given, ones-even}
+use Rattle.repair.proofs.calls.repair.Statement.{statement}
+use Rattle.repair.proofs.calls.repair.Tie as tie
+
+-- there are at most as many as the largest n
+few : (c : tie.After-student-count) → c .student-count .result ≤ largest
+few c = omega (arith, c .student-count .ensures)
+
+slice-aggregate-repair-by : tie.Need-slice-aggregate-repair-by
+slice-aggregate-repair-by c = let n : tie.After-student-count = search in sym (ones-length _ (few n))
+
+repair-by-requires : tie.Need-repair-by-requires
+repair-by-requires c κs = let n : tie.After-student-count = search in ones-given _ _ (few n)
+
+returns : tie.Need-returns
+returns c =
+    let r : tie.After-repair-by = search in
+    let n : tie.After-student-count = search in
+    let s : tie.Start = search in
+    let a = s .args in
+    let b = now (a .book) in
+    let m = now (a .matching) in
+    let k = take (n .student-count .result) ones in
+    let E = ones-even b m (n .student-count .ensures) in
+    let R = r .repair-by .ensures in (
+      R .0 ∙ even-reply b m k E (now (a .request)) (now (a .out)) (now (a .gains)),
+      (
+        R .1 .0 ∙ even-matching b m k E (now (a .request)) (now (a .out)) (now (a .gains)),
+        R .1 .1 ∙ even-gains b m k E (now (a .request)) (now (a .out)) (now (a .gains)),
+      ),
+    )
+
+pub repair-spec : {M : Type 1} → statement M
+repair-spec =
+    tie.close
+    (tie.spec
+    (λ c. search needs)
+    (λ c κs. search needs)
+    slice-aggregate-repair-by
+    repair-by-requires
+    (λ c. search needs)
+    (λ c. search needs)
+    returns)

@@ -1,0 +1,61 @@
+// The two calls for the repair of a pair: where every student counts 1, and with weights.
+use crate::pair::repair_by;
+use format::Instance;
+use repairs::Answer;
+use weights::read_weights;
+use weights::student_count;
+ghost use mathlib.Core.Path.{_≡_};
+ghost use Rattle.laws.specs.Moment.{now₀, now₁};
+ghost use Rattle.repairs.specs.Repair.{repairOutcome, repairReply, repairMatching, repairGains};
+ghost use Rattle.repairs.specs.Repair.{weightedReply, weightedMatching, weightedGains};
+
+// The repair of the pair that the request names, student then mentor, or the first rule that is broken and where. A
+// repair's matching goes to the front of `out` and each student's places gained to that of `gains`; past n entries,
+// and otherwise, both stay as they were. Every student weighs 1.
+pub fn repair(
+    book: &[u8],
+    matching: &[u8],
+    request: &[u8],
+    out: &mut [u8],
+    gains: &mut [i8],
+) -> Answer
+    ensures reply { λ r. ⌜ repairOutcome r ≡ repairReply (now₀ book) (now₀ matching) (now₀ request) (now₀ out) (now₀ gains) ⌝ }
+    ensures bytes { λ _. ⌜ now₁ out ≡ repairMatching (now₀ book) (now₀ matching) (now₀ request) (now₀ out) (now₀ gains) ⌝ }
+    ensures places { λ _. ⌜ now₁ gains ≡ repairGains (now₀ book) (now₀ matching) (now₀ request) (now₀ out) (now₀ gains) ⌝ }
+{
+    let ones = [1usize; Instance::LARGEST];
+    let all = &ones[..];
+    let n = student_count(book);
+    repair_by(book, matching, &all[..n], all, request, out, gains)
+}
+
+// The same with a weight for each student, one byte each: the total weight of the students moved in place of their
+// number.
+pub fn weighted_repair(
+    book: &[u8],
+    matching: &[u8],
+    weights: &[u8],
+    request: &[u8],
+    out: &mut [u8],
+    gains: &mut [i8],
+) -> Answer
+    ensures reply { λ r. ⌜ repairOutcome r ≡ weightedReply (now₀ book) (now₀ matching) (now₀ weights) (now₀ request) (now₀ out)
+        (now₀ gains) ⌝ }
+    ensures bytes { λ _. ⌜ now₁ out ≡ weightedMatching (now₀ book) (now₀ matching) (now₀ weights) (now₀ request) (now₀ out)
+        (now₀ gains) ⌝ }
+    ensures places { λ _. ⌜ now₁ gains ≡ weightedGains (now₀ book) (now₀ matching) (now₀ weights) (now₀ request) (now₀ out)
+        (now₀ gains) ⌝ }
+{
+    let given = read_weights(matching, weights);
+    let men = given.men;
+    let women = given.women;
+    repair_by(
+        book,
+        matching,
+        &men[..given.count],
+        &women,
+        request,
+        out,
+        gains,
+    )
+}

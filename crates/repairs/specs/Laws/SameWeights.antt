@@ -1,0 +1,86 @@
+-- Replies depend on the verdict, and where nothing is refused on the weights of the n students alone. So with every
+-- weight 1 the weighted replies are the plain ones, and weights past the largest n do not matter. Assumes nothing.
+use Prim.Native.Nat.{ℕ, _+_, _≤_, _<_}
+use mathlib.Core.Path.{_≡_, refl, sym, _∙_, ap}
+use mathlib.Core.List.{List}
+use mathlib.Core.Bool.{not}
+use native.Mathlib.Omega.{arith}
+use lib.ListN.{length, take, getD}
+use lib.Dec.{eqb}
+use lib.IntN.{ℤ}
+use Rattle.laws.specs.Choice.{pick}
+use Rattle.laws.specs.SumLaws.{sum-same}
+use Rattle.format.specs.Verdict.{Verdict, fine, refused, andThen}
+use Rattle.format.specs.Outcome.{Outcome, gives, after, filled}
+use Rattle.format.specs.Format.{people}
+use Rattle.stable_theory.specs.Stable.Holding.{Same}
+use Rattle.stable_theory.specs.Repairs.Answer.{Answer, U, D, F}
+use Rattle.stable_theory.specs.Repairs.Weights.{answer-weights, robustness-weights}
+use Rattle.matchings.specs.BookMarket.{market}
+use Rattle.matchings.specs.Matching.{vectorOf, womanOf}
+use Rattle.matchings.specs.Extreme.{matchingOf}
+use Rattle.repairs.specs.Weights.{movedWeight}
+use Rattle.repairs.specs.Request.{askingMan}
+use Rattle.repairs.specs.Repair.{up, down, answerFor, withDistance, entriesFor, matchingFor, gainsFor, replyAfter, matchingAfter, gainsAfter}
+use Rattle.repairs.specs.Grade.{gradeOf}
+
+-- Weights c and d of the students of a book that agree
+module _ (b : List ℕ) {c d : ℕ → ℕ} (e : (i : ℕ) → i < people b → c i ≡ d i) (m : List ℕ) where
+  agree : Same (market b) c d
+  unfolding market
+  agree i u = e i u
+
+  -- the same students moved weigh the same
+  pub moved-same : (k : List ℕ) → movedWeight (people b) c m k ≡ movedWeight (people b) d m k
+  moved-same k =
+      sum-same (people b) (λ i. pick (not (eqb (womanOf k i) (womanOf m i))) (c i) 0) (λ i. pick (not (eqb (womanOf k i) (womanOf m i))) (d i) 0)
+      (λ i u. ap (λ (x : ℕ). pick (not (eqb (womanOf k i) (womanOf m i))) x 0) (e i u))
+
+  -- the answer is the same
+  pub answer-same : (s : ℕ) → answerFor b c m s ≡ answerFor b d m s
+  answer-same s = answer-weights (market b) agree (vectorOf b m) s
+
+  -- with the same distance
+  distance-same : (a : Answer) → withDistance b c m a ≡ withDistance b d m a
+  distance-same (U v) = ap up (moved-same (matchingOf b v))
+  distance-same (D v) = ap down (moved-same (matchingOf b v))
+  distance-same F = refl
+
+  pub shown-same : (s : ℕ) → withDistance b c m (answerFor b c m s) ≡ withDistance b d m (answerFor b d m s)
+  shown-same s = distance-same (answerFor b c m s) ∙ ap (withDistance b d m) (answer-same s)
+
+  -- and the grade is the same
+  pub grade-same : gradeOf b c m ≡ gradeOf b d m
+  grade-same = robustness-weights (market b) agree (vectorOf b m)
+
+-- Verdicts that are the same, and weights that agree where nothing is refused
+module _ (b m : List ℕ) {c d : ℕ → ℕ} where
+  -- so are the reply to a request and the two buffers
+  pub reply-same : (q : List ℕ) {v w : Verdict} → v ≡ w → (v ≡ fine → (i : ℕ) → i < people b → c i ≡ d i) → replyAfter v c b m q ≡ replyAfter w d b m q
+  reply-same q {v} {w} k e = by v e ∙ ap (λ (x : Verdict). replyAfter x d b m q) k
+    where
+      by : (v : Verdict) → (v ≡ fine → (i : ℕ) → i < people b → c i ≡ d i) → replyAfter v c b m q ≡ replyAfter v d b m q
+      by fine e = ap gives (shown-same b (e refl) m (askingMan q))
+      by (refused number place second) e = refl
+
+  pub matching-same : (q out : List ℕ) {v w : Verdict} → v ≡ w → (v ≡ fine → (i : ℕ) → i < people b → c i ≡ d i) → matchingAfter v c b m q out ≡ matchingAfter w d b m q out
+  matching-same q out {v} {w} k e = by v e ∙ ap (λ (x : Verdict). matchingAfter x d b m q out) k
+    where
+      by : (v : Verdict) → (v ≡ fine → (i : ℕ) → i < people b → c i ≡ d i) → matchingAfter v c b m q out ≡ matchingAfter v d b m q out
+      by fine e = ap (λ (a : Answer). filled fine (entriesFor b a) (matchingFor b a) out) (answer-same b (e refl) m (askingMan q))
+      by (refused number place second) e = refl
+
+  pub gains-same : (q : List ℕ) (gains : List ℤ) {v w : Verdict} → v ≡ w → (v ≡ fine → (i : ℕ) → i < people b → c i ≡ d i) → gainsAfter v c b m q gains ≡ gainsAfter w d b m q gains
+  gains-same q gains {v} {w} k e = by v e ∙ ap (λ (x : Verdict). gainsAfter x d b m q gains) k
+    where
+      by : (v : Verdict) → (v ≡ fine → (i : ℕ) → i < people b → c i ≡ d i) → gainsAfter v c b m q gains ≡ gainsAfter v d b m q gains
+      by fine e = ap (λ (a : Answer). filled fine (entriesFor b a) (gainsFor b m a) gains) (answer-same b (e refl) m (askingMan q))
+      by (refused number place second) e = refl
+
+  -- and the reply with the grade
+  pub graded-same : {v w : Verdict} → v ≡ w → (v ≡ fine → (i : ℕ) → i < people b → c i ≡ d i) → after v (gradeOf b c m) ≡ after w (gradeOf b d m)
+  graded-same {v} {w} k e = by v e ∙ ap (λ (x : Verdict). after x (gradeOf b d m)) k
+    where
+      by : (v : Verdict) → (v ≡ fine → (i : ℕ) → i < people b → c i ≡ d i) → after v (gradeOf b c m) ≡ after v (gradeOf b d m)
+      by fine e = ap gives (grade-same b (e refl) m)
+      by (refused number place second) e = refl

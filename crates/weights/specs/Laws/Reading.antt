@@ -1,0 +1,102 @@
+-- The steps of the loops that read weights, and what the two make together. Assumes nothing.
+use Prim.Native.Nat.{ℕ, _+_, _≤_, _<_, min}
+use mathlib.Core.Path.{_≡_, refl, sym, _∙_, ap, subst}
+use mathlib.Core.List.{List}
+use native.Mathlib.Omega.{arith}
+use lib.ListN.{length, set, take, replicate, length-set, length-take, length-replicate, List·getD-eq-default}
+use lib.Seq.{getD-set-same, getD-set-other, getD-take, ext-getD}
+use Rattle.laws.specs.Choice.{same, split}
+use Rattle.laws.specs.Cut.{take-most}
+use Rattle.laws.specs.Front.{front-more}
+use Rattle.laws.specs.FrontStores.{stores-front, front-stored}
+use Rattle.laws.specs.Onto.{Into}
+use Rattle.laws.specs.Stores.{stores-start}
+use Rattle.laws.specs.Table.{zeros-read}
+use Rattle.laws.specs.Values.{vec}
+use Rattle.format.specs.Format.{largest}
+use Rattle.matchings.specs.Matching.{womanOf}
+use Rattle.weights.specs.Weights.{WeightsGiven, MenWeighed, WomenWeighed}
+
+-- a list of weights after a store of one
+light-set : (l : List ℕ) {i x : ℕ} → i < length l → x ≤ 255 → ((v : ℕ) → vec l v ≤ 255) → (v : ℕ) → vec (set l i x) v ≤ 255
+light-set l {i} {x} u h f v =
+    same v i
+    (λ e. rw e (omega (arith, getD-set-same l i x 0 u)))
+    (λ ne. omega (arith, getD-set-other l i v x 0 ne, f v))
+
+-- no weight is read yet
+pub men-start : {weights : List ℕ} → MenWeighed weights 0 (replicate (largest + 1) 0)
+men-start =
+    record {
+      long = length-replicate {A = ℕ} (largest + 1) 0;
+      light = λ i. omega (arith, zeros-read (largest + 1) i);
+      read = λ i u. absurd (omega arith);
+    }
+
+-- one weight more
+pub men-on :
+    {weights men : List ℕ} {k x : ℕ} → MenWeighed weights k men → k ≤ largest → x ≡ vec weights k → x < 256 →
+    MenWeighed weights (k + 1) (set men k x)
+men-on {weights} {men} {k} {x} F u e h =
+    record {
+      long = length-set men k x ∙ F .long;
+      light = light-set men (omega (arith, F .long)) (omega arith) (F .light);
+      read = front-more (vec weights) men k x (omega (arith, F .long)) e (F .read);
+    }
+
+module _ {m men : List ℕ} {n : ℕ} where
+  -- no woman has a weight yet
+  pub women-start : WomenWeighed m men n 0 (replicate largest 0)
+  women-start =
+      record {
+        long = length-replicate {A = ℕ} largest 0;
+        light = λ h w. omega (arith, zeros-read largest w);
+        stored = λ N. stores-start 0 _ _ _;
+      }
+
+  -- man i, who has index k, and his woman w
+  module _ {women : List ℕ} {i k w next : ℕ} (F : WomenWeighed m men n i women) (at : k ≡ i) (e : w ≡ womanOf m i) (u : i < n) (r : next ≡ i + 1) where
+    -- she gets his weight
+    pub women-on : w < largest → WomenWeighed m men n next (set women w (vec men k))
+    women-on h =
+        rw (r, at)
+        (record {
+          long = length-set women w (vec men i) ∙ F .long;
+          light = λ g. light-set women (omega (arith, F .long)) (g i) (F .light g);
+          stored = λ N.
+              stores-front (F .stored N) e refl (omega (arith, length-replicate {A = ℕ} largest 0))
+              (λ j l z. let v : j < n = omega arith in omega (arith, N .apart v u z));
+        })
+
+    -- or there is no such woman, and then the matching has other numbers than those below n
+    pub women-out : n ≤ largest → largest ≤ w → WomenWeighed m men n next women
+    women-out few h =
+        record { long = F .long; light = F .light; stored = λ N. absurd (omega (arith, N .below u)) }
+
+module _ {weights men : List ℕ} {count : ℕ} (c : count ≡ min (largest + 1) (length weights)) (M : MenWeighed weights count men) where
+  -- what is read is the front of the weights
+  pub weights-same : take count men ≡ take (largest + 1) weights
+  weights-same =
+      ext-getD 0 (take count men) (take count weights)
+      (omega (arith, length-take count men, length-take count weights, M .long))
+      (λ i (u : i < length (take count men)).
+      let v : i < count = omega (arith, length-take count men) in
+      getD-take count men i 0 v ∙ M .read i v ∙ sym (getD-take count weights i 0 v))
+      ∙ ap (λ (j : ℕ). take j weights) c ∙ take-most weights (largest + 1)
+
+  -- and with what the women have of it, weights as the code hands them on
+  pub weights-given :
+      {m women : List ℕ} {n : ℕ} → n ≡ min (min count (length m)) largest → WomenWeighed m men n n women → WeightsGiven m (take count men) women
+  weights-given {m} {women} {n} e W =
+      record {
+        light = λ i.
+            split count i
+            (λ h. omega (arith, List·getD-eq-default (take count men) 0 {n = i} (omega (arith, length-take count men))))
+            (λ h. omega (arith, getD-take count men i 0 h, M .light i));
+        carried-light = W .light (M .light);
+        carried-long = omega (arith, W .long);
+        carried = λ n′ few a b N i u.
+            let q : n′ ≡ n = omega (arith, length-take count men, M .long) in
+            let v : i < n = omega arith in
+            front-stored (W .stored (subst (λ (z : ℕ). Into z z (womanOf m)) q N)) v ∙ sym (getD-take count men i 0 (omega arith));
+      }
