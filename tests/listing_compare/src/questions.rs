@@ -2,6 +2,7 @@
 //! the repairs of all pairs, the grade, the set and the sheet. Result buffers are long enough.
 
 use crate::both::Both;
+use crate::tally::letter_place;
 use listing::asked::Asked;
 use listing::matching::Matching;
 use listing::people::Man;
@@ -91,8 +92,7 @@ impl Both {
     fn ask_pair(&mut self, book: &Asked, stable: &Matching, matching: &[u8], man: Man) {
         let woman = stable.woman_of(man);
         let due = self.repair(book, matching, &[man.0, woman.0], ROOM, ROOM);
-        let letter = ['U', 'D', 'F'].iter().position(|&letter| letter as usize == due.letter);
-        self.tally.letters[letter.expect("every answer has a letter")] += 1;
+        self.tally.letters[letter_place(due.letter)] += 1;
         let ones = book.ones();
         let ones = Weights::read(matching.len(), &ones).expect("a weight for each man");
         let fewest = book.listing().least_total(stable, man, ones);
