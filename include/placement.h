@@ -1,9 +1,10 @@
 /* Stable placements and their repairs: the C interface of libplacement.a.
  *
  * A book is the encoded preference lists of n students and n mentors, n from 0 to 64. A matching is n bytes:
- * byte i is the mentor of student i. A byte slice is passed as a pointer and a length; a null pointer goes with
- * length 0 only. Result buffers may not overlap each other or an input. No function keeps a pointer, allocates,
- * or touches anything but the memory that it is lent and the stack.
+ * byte i is the mentor of student i. Weights are n bytes: byte i is the weight of student i, 0 to 255. A byte slice
+ * is passed as a pointer and a length; a null pointer goes with length 0 only. Result buffers may not overlap each
+ * other or an input. No function keeps a pointer, allocates, or touches anything but the memory that it is lent and
+ * the stack.
  *
  * Every call answers with a struct placement_reply. `number` is 0, or the number of the first rule that the
  * input breaks, in the order given at each function; then `place` (and for rule 10 `second`) says where, every
@@ -24,19 +25,21 @@ extern "C" {
 /* The version of this interface. The second number rises where something is added, the first where a program that was
  * written for the version before may have to be changed. */
 #define PLACEMENT_VERSION_MAJOR 1
-#define PLACEMENT_VERSION_MINOR 0
+#define PLACEMENT_VERSION_MINOR 1
 
 /* The largest of each over all books: buffers of these sizes are always long enough. */
 #define PLACEMENT_LARGEST_N 64                /* students, and mentors: bytes of a matching, entries of the gains */
 #define PLACEMENT_LARGEST_BOOK 8706           /* bytes of a book */
 #define PLACEMENT_LARGEST_SHEET 715           /* bytes of a sheet */
+#define PLACEMENT_LARGEST_WEIGHTED_SHEET 910  /* bytes of a weighted sheet: totals up to 64 * 255 = 16,320 */
 #define PLACEMENT_LARGEST_ROTATION_COUNT 2016 /* rotations, n(n - 1)/2: bytes of a set */
 #define PLACEMENT_LARGEST_ROTATION_LIST 10080 /* bytes of a list of rotations: five for each of so many */
 
 /* The bytes of stack that a call needs, at most, whatever n is: as tests/stack measures the archive, rounded up. Nothing
  * is allocated otherwise, so the tables of a call lie on the stack of the thread that makes it. */
 #define PLACEMENT_STACK_BOOKS 1024       /* check_book, book_size, write_book, student_list, mentor_list */
-#define PLACEMENT_STACK_MATCHINGS 45056  /* check_matching, the extremes, repair, grade, rotation_count, sheet */
+#define PLACEMENT_STACK_MATCHINGS 45056  /* check_matching, the extremes, rotation_count; repair, grade, sheet and their
+                                            weighted calls */
 #define PLACEMENT_STACK_ROTATIONS 106496 /* rotations, precedes, set_to_matching, matching_to_set: the largest */
 
 /* The rules by number. Beside each: when it is broken, and the place given, 0 where none is said. */
@@ -57,7 +60,8 @@ enum placement_refusal {
     PLACEMENT_ONE_PAIR = 13, /* the request is not two bytes, student then mentor */
     PLACEMENT_SHEET = 14,    /* a result buffer is too short */
     PLACEMENT_MARKS = 15,    /* the set has a wrong length or a byte over 1 */
-    PLACEMENT_OPEN = 16      /* the set is not closed */
+    PLACEMENT_OPEN = 16,     /* the set is not closed */
+    PLACEMENT_WEIGHTS = 17   /* the weights are not n bytes */
 };
 
 struct placement_reply {
@@ -125,6 +129,25 @@ struct placement_reply placement_matching_to_set(const uint8_t *book, size_t boo
  * Refused: 14 only. A bad book or matching is no refusal here: number is 0, and the sheet is the line `refused N`, N being
  * the number of the rule. */
 struct placement_reply placement_sheet(const uint8_t *input, size_t input_len, uint8_t *out, size_t out_len);
+
+/* The repair of one pair where each student has a weight: as placement_repair, with the total weight of the students
+ * moved in place of their number. The repair of the smaller total is given, up when equal, and value is that total. A
+ * pair that can be repaired is 'U' or 'D' even where the total is 0. Weights of 1 give the answers of placement_repair.
+ * Refused: the book, then 8, 9, 10, then 17, then 13, 11, 12, then 14. */
+struct placement_reply placement_weighted_repair(const uint8_t *book, size_t book_len, const uint8_t *matching, size_t matching_len,
+                                                 const uint8_t *weights, size_t weights_len, const uint8_t *request,
+                                                 size_t request_len, uint8_t *out, size_t out_len, int8_t *gains,
+                                                 size_t gains_len);
+
+/* value: the weighted grade of a stable matching, which is the largest, over the pairs that are not fixed, of the total
+ * less the weight of the pair's own student; 0 if all are fixed. Refused: the book, then 8, 9, 10, then 17. */
+struct placement_reply placement_weighted_grade(const uint8_t *book, size_t book_len, const uint8_t *matching, size_t matching_len,
+                                                const uint8_t *weights, size_t weights_len);
+
+/* The weighted sheet of a book with a matching and weights after it, as the weighted sheet program prints it, to out.
+ * The first n bytes after the book are the matching (all, if there are fewer), and all that follow are the weights.
+ * value: bytes written. Refused: 14 only; otherwise as placement_sheet. */
+struct placement_reply placement_weighted_sheet(const uint8_t *input, size_t input_len, uint8_t *out, size_t out_len);
 
 #ifdef __cplusplus
 }

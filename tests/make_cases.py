@@ -4,18 +4,19 @@
     tests/make_cases.py            writes crates/cases/stdin and stdout
     tests/make_cases.py --check    says whether they are what it would write
 
-A case is a byte for the call, by its order in include/placement.h; then seven numbers of two bytes, low byte first:
-two that the call may take, the room of the result buffer and of the buffer of the places gained, the lengths of three
+A case is a byte for the call, by its order in include/placement.h; then eight numbers of two bytes, low byte first:
+two that the call may take, the room of the result buffer and of the buffer of the places gained, the lengths of four
 parts; then the parts. Its line is the reply and the two buffers after the call, parted by colons.
 
 The cases stand in tests/cases, a module for each group of calls. The expected replies and buffers are literals from
-documents 01 and 000 or worked out there in Python; no code of the library is used.
+documents 01, 02 and 000 or worked out there in Python; no code of the library is used.
 """
 import pathlib
 import sys
 
 sys.dont_write_bytecode = True
 from cases import book_calls, matching_calls, repair_calls, rotation_calls, sheet_calls
+from cases import weighted_calls, weighted_sheet_calls
 
 CASES = [
     *book_calls.CASES,
@@ -23,9 +24,11 @@ CASES = [
     *repair_calls.CASES,
     *rotation_calls.CASES,
     *sheet_calls.CASES,
+    *weighted_calls.CASES,
+    *weighted_sheet_calls.CASES,
 ]
 # What the program takes
-LARGEST = 262144
+LARGEST = 524288
 
 
 def main():

@@ -1,11 +1,12 @@
 #!/usr/bin/env python3
-"""The counts of the first part of tests/listing_compare, from document 01's definitions over all matchings.
+"""The counts of the first part of tests/listing_compare, from document 01's definitions over all matchings and, for
+weights, from W-201 of document 02.
 
-    tests/make_listing_counts.py            prints them, in a quarter of a minute
+    tests/make_listing_counts.py            prints them, in half a minute
     tests/make_listing_counts.py --check    says whether tests/listing_compare/expected begins with them
 
 The books and what is asked of them are those of tests/listing_compare; no code is taken from there or from
-tests/listing.
+tests/listing. tests/counts holds the definitions.
 """
 import collections
 import itertools
@@ -13,117 +14,8 @@ import math
 import pathlib
 import sys
 
-
-class Book:
-    """Ranked lists of students and of mentors, best first."""
-
-    def __init__(self, students, mentors):
-        self.n = len(students)
-        self.students, self.mentors = students, mentors
-        self.all_stable = [m for m in itertools.permutations(range(self.n)) if self.is_stable(m)]
-
-    def place(self, student, mentor):
-        return self.students[student].index(mentor)
-
-    def is_stable(self, m):
-        """No pair ranks each other above their partners."""
-        for s in range(self.n):
-            for t in self.students[s]:
-                if t == m[s]:
-                    break
-                if self.mentors[t].index(s) < self.mentors[t].index(m.index(t)):
-                    return False
-        return True
-
-    def student_best(self):
-        best = tuple(min((m[s] for m in self.all_stable), key=lambda t, s=s: self.place(s, t)) for s in range(self.n))
-        assert best in self.all_stable
-        return best
-
-    # Rotations
-
-    def next_mentor(self, m, s):
-        below = self.students[s][self.place(s, m[s]) + 1 :]
-        for t in below:
-            if self.mentors[t].index(s) < self.mentors[t].index(m.index(t)):
-                return t
-        return None
-
-    def exposed(self, m):
-        """The rotations exposed in m, each a tuple of pairs from its lowest student, by that student."""
-        found = []
-        for s in range(self.n):
-            cycle, at = [s], s
-            while True:
-                t = self.next_mentor(m, at)
-                at = None if t is None else m.index(t)
-                if at is None or at in cycle:
-                    break
-                cycle.append(at)
-            if at == s and s == min(cycle):
-                found.append(tuple((x, m[x]) for x in cycle))
-        return found
-
-    def eliminate(self, m, rotation):
-        new = list(m)
-        for k, (s, _) in enumerate(rotation):
-            new[s] = rotation[(k + 1) % len(rotation)][1]
-        return tuple(new)
-
-    def rotations(self):
-        m, found = self.student_best(), []
-        while self.exposed(m):
-            found.append(self.exposed(m)[0])
-            m = self.eliminate(m, found[-1])
-        return found
-
-    def runs(self, avoided=None):
-        """Every matching that a run without the rotation reaches, with the rotations that a run to it eliminates."""
-        start = self.student_best()
-        reached, waiting = {start: frozenset()}, [start]
-        while waiting:
-            m = waiting.pop()
-            for rotation in self.exposed(m):
-                if rotation == avoided:
-                    continue
-                new, eliminated = self.eliminate(m, rotation), reached[m] | {rotation}
-                if new in reached:
-                    assert reached[new] == eliminated
-                else:
-                    reached[new] = eliminated
-                    waiting.append(new)
-        return reached
-
-    def order(self, rotations):
-        """The pairs of numbers of which the first precedes the second: no run without it exposes the second."""
-        before = set()
-        for j, first in enumerate(rotations):
-            exposed = {rotation for m in self.runs(first) for rotation in self.exposed(m)}
-            before |= {(j, k) for k, second in enumerate(rotations) if j != k and second not in exposed}
-        return before
-
-    # Repairs
-
-    def letter(self, m, s):
-        """U, D or F for the pair of a student."""
-        without = [x for x in self.all_stable if x[s] != m[s]]
-        if not without:
-            return "F"
-
-        def no_worse(x, y):
-            return all(self.place(i, x[i]) <= self.place(i, y[i]) for i in range(self.n))
-
-        def distance(those, choose):
-            if not those:
-                return math.inf
-            one = tuple(choose((x[i] for x in those), key=lambda t, i=i: self.place(i, t)) for i in range(self.n))
-            assert one in those
-            return sum(a != b for a, b in zip(one, m))
-
-        up = distance([x for x in without if no_worse(x, m)], max)
-        down = distance([x for x in without if no_worse(m, x)], min)
-        assert min(up, down) == min(sum(a != b for a, b in zip(x, m)) for x in without)
-        return "U" if up <= down else "D"
+sys.dont_write_bytecode = True
+from counts.book import Book, answer
 
 
 class Counts(collections.Counter):
@@ -151,7 +43,7 @@ class Counts(collections.Counter):
         self["matchings"] += 1
         self["sheets"] += 1
         for s in range(book.n):
-            self["answers " + book.letter(m, s)] += 1
+            self["answers " + answer(*book.moved(m, s), [1] * book.n)[0]] += 1
             self["refusals"] += 1  # the student with the mentor after his own
         eliminated = book.runs()[m]
         marks = [int(rotation in eliminated) for rotation in rotations]
@@ -159,6 +51,20 @@ class Counts(collections.Counter):
         if rotations:
             marks[number % len(rotations)] ^= 1
             self.set(marks, before)
+
+    def weighted(self, book, m, tables):
+        """A stable matching with each of some tables of weights."""
+        moved = [book.moved(m, s) for s in range(book.n)]
+        for weights in tables:
+            self["weighted matchings"] += 1
+            grade = 0
+            for s in range(book.n):
+                letter, total = answer(*moved[s], weights)
+                self["weighted answers " + letter] += 1
+                self["weighted totals"] += total
+                if letter != "F":
+                    grade = max(grade, total - weights[s])
+            self["weighted grades"] += grade
 
     def refused(self, times=1):
         """Bytes that are no stable matching: check, repair, grade and set are refused."""
@@ -177,8 +83,11 @@ def permutation(n, k):
 
 
 def count_small(counts):
-    """Every book for n up to 3 with every matching, and for n up to 2 with some bytes that are none."""
+    """Every book for n up to 3 with every matching, and for n up to 2 with some bytes that are none; every stable
+    matching with all weights 0, 1 and 2, but with one table where n = 3 and it is the only one, all pairs being fixed.
+    """
     for n in range(4):
+        tables = list(itertools.product([0, 1, 2], repeat=n))
         lists = list(itertools.permutations(range(n)))
         for both in itertools.product(lists, repeat=2 * n):
             book = Book(both[:n], both[n:])
@@ -190,13 +99,15 @@ def count_small(counts):
                 else:
                     counts.refused()
             counts.refused([1, 3, 4, 0][n])
+            for m in book.all_stable:
+                counts.weighted(book, m, tables[:1] if n == 3 and len(book.all_stable) == 1 else tables)
 
 
 class Drawn:
-    """Books drawn by the numbers of Park and Miller from 1 on."""
+    """Books and weights drawn by the numbers of Park and Miller after a seed."""
 
-    def __init__(self):
-        self.last = 1
+    def __init__(self, seed):
+        self.last = seed
 
     def draw(self):
         self.last = self.last * 48271 % 2147483647
@@ -225,8 +136,9 @@ class Drawn:
 
 
 def count_drawn(counts):
-    """Drawn books for n = 4 to 6 with every stable matching and three drawn ones, if they are not stable."""
-    drawn = Drawn()
+    """Drawn books for n = 4 to 6 with every stable matching and three drawn ones, if they are not stable; every stable
+    matching with weights of any bytes and with weights 0, 1 and 2, which are drawn too."""
+    drawn, drawn_weights = Drawn(1), Drawn(3)
     for n, books in ((4, 600), (5, 300), (6, 150)):
         for kind in ["random", "cyclic", "xor"] * books:
             book = Book(*drawn.lists(kind, n))
@@ -236,10 +148,14 @@ def count_drawn(counts):
             for _ in range(3):
                 if permutation(n, drawn.draw()) not in book.all_stable:
                     counts.refused()
+            for m in book.all_stable:
+                counts.weighted(book, m, [[drawn_weights.draw() % end for _ in range(n)] for end in (256, 3)])
 
 
 WORDS = ["books", "matchings", "stable matchings", "answers U", "answers D", "answers F"]
 WORDS += ["refusals", "rotations", "sets", "sheets"]
+WORDS += ["weighted matchings", "weighted answers U", "weighted answers D", "weighted answers F"]
+WORDS += ["weighted totals", "weighted grades"]
 
 if __name__ == "__main__":
     counts = Counts()

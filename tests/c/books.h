@@ -7,11 +7,11 @@
 
 #define LARGEST_BOOK 8706
 
-/* A book, or the lists of one, and its bytes; `n` is its number of students. */
+/* A book, or the lists of one, and its bytes, with room for a matching and weights; `n` is its number of students. */
 struct book {
     size_t n;
     size_t length;
-    uint8_t bytes[LARGEST_BOOK + 80];
+    uint8_t bytes[LARGEST_BOOK + 64 + 64 + 16];
 };
 
 /* Lists of Table 1 of document 000, one digit an entry: students 0 to 6, then mentors 0 to 6. */

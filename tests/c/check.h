@@ -27,7 +27,7 @@ void holds_at(const char *file, int line, int holds, const char *text);
 
 /* A copy of an input in its own memory, directly before a page that may not be read. There are FENCES of them;
  * a copy stays until the same fence is used again. Length 0 gives a null pointer. */
-#define FENCES 3
+#define FENCES 4
 const uint8_t *fenced(int fence, const uint8_t *bytes, size_t length);
 
 /* A result buffer between guard bytes. All bytes, guard bytes too, hold a pattern of bytes from 0x80 to 0xbf. */
@@ -52,6 +52,9 @@ void test_rotations(void);
 void test_sets(void);
 void test_repair(void);
 void test_sheet(void);
+void test_weights(void);
+void test_weight_rules(void);
+void test_weighted_sheet(void);
 void test_header(void);
 
 #endif

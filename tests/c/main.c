@@ -12,6 +12,9 @@ int main(void)
     test_sets();
     test_repair();
     test_sheet();
+    test_weights();
+    test_weight_rules();
+    test_weighted_sheet();
     test_header();
     printf("C: %lu checks, %lu failed\n", checks, failures);
     return failures != 0;

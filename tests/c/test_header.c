@@ -4,18 +4,18 @@
 
 static struct lent out, gains;
 
-/* The words of document 01's table, in its order. */
+/* The words of document 01's table, in its order, and that of W-201. */
 static void words(void)
 {
-    static const int numbers[17] = {PLACEMENT_FINE,     PLACEMENT_SHORT,     PLACEMENT_EDITION,  PLACEMENT_CROWD,
+    static const int numbers[18] = {PLACEMENT_FINE,     PLACEMENT_SHORT,     PLACEMENT_EDITION,  PLACEMENT_CROWD,
                                     PLACEMENT_OVERLONG, PLACEMENT_DIRECTORY, PLACEMENT_STRANGER, PLACEMENT_REPEAT,
                                     PLACEMENT_LENGTH,   PLACEMENT_CLASH,     PLACEMENT_UNSTABLE, PLACEMENT_UNKNOWN,
                                     PLACEMENT_APART,    PLACEMENT_ONE_PAIR,  PLACEMENT_SHEET,    PLACEMENT_MARKS,
-                                    PLACEMENT_OPEN};
-    for (int number = 0; number < 17; number++) {
+                                    PLACEMENT_OPEN,     PLACEMENT_WEIGHTS};
+    for (int number = 0; number < 18; number++) {
         HOLDS(numbers[number] == number);
     }
-    HOLDS(PLACEMENT_VERSION_MAJOR >= 1 && PLACEMENT_VERSION_MINOR >= 0);
+    HOLDS(PLACEMENT_VERSION_MAJOR == 1 && PLACEMENT_VERSION_MINOR >= 1);
 }
 
 /* The repair of Table 1's matching for a request of so many of these bytes, with result buffers of so many entries. */
@@ -49,23 +49,28 @@ static void each_rule(void)
     EXPECT(repair(table_1_m5, 7, nobody, 2, 7), refused(PLACEMENT_UNKNOWN, 0));
     EXPECT(repair(table_1_m5, 7, apart, 2, 7), refused(PLACEMENT_APART, 0));
     EXPECT(repair(table_1_m5, 7, pair, 2, 6), refused(PLACEMENT_SHEET, 0));
+    EXPECT(placement_weighted_grade(book.bytes, 156, table_1_m5, 7, pair, 3), refused(PLACEMENT_WEIGHTS, 0));
     EXPECT(placement_set_to_matching(book.bytes, 156, two, 6, lend(&out, 7), 7), refused(PLACEMENT_MARKS, 0));
     EXPECT(placement_set_to_matching(book.bytes, 156, open, 6, lend(&out, 7), 7), refused(PLACEMENT_OPEN, 0));
     WROTE_NOTHING(&out);
     WROTE_NOTHING(&gains);
 }
 
-/* The sheet of a book of 64 in which each student has the mentor of the same number, in a buffer of the constant. */
-static void sheet_fits(struct book book)
+/* The sheets of a book of 64 in which each student has the mentor of the same number, and all weigh the most, in
+ * buffers of the constants. */
+static void sheets_fit(struct book book)
 {
-    uint8_t same[64];
+    const size_t room = PLACEMENT_LARGEST_SHEET, weighted_room = PLACEMENT_LARGEST_WEIGHTED_SHEET;
+    uint8_t same[64], heaviest[64];
     for (size_t i = 0; i < 64; i++) {
         same[i] = (uint8_t)i;
+        heaviest[i] = 255;
     }
-    struct book input = followed(book, same, 64);
-    struct placement_reply sheet =
-        placement_sheet(input.bytes, input.length, lend(&out, PLACEMENT_LARGEST_SHEET), PLACEMENT_LARGEST_SHEET);
-    HOLDS(sheet.number == PLACEMENT_FINE && 500 < sheet.value && sheet.value <= PLACEMENT_LARGEST_SHEET);
+    struct book plain = followed(book, same, 64), weighted = followed(plain, heaviest, 64);
+    struct placement_reply sheet = placement_sheet(plain.bytes, plain.length, lend(&out, room), room);
+    HOLDS(sheet.number == PLACEMENT_FINE && 500 < sheet.value && sheet.value <= room);
+    sheet = placement_weighted_sheet(weighted.bytes, weighted.length, lend(&out, weighted_room), weighted_room);
+    HOLDS(sheet.number == PLACEMENT_FINE && 600 < sheet.value && sheet.value <= weighted_room);
 }
 
 /* The largest of each. The xor lists have the most rotations there can be, and the longest list of them. */
@@ -79,8 +84,8 @@ static void constants(void)
     EXPECT(placement_rotation_count(book.bytes, book.length), value(PLACEMENT_LARGEST_ROTATION_COUNT));
     EXPECT(placement_rotations(book.bytes, book.length, lend(&out, room), room), value(PLACEMENT_LARGEST_ROTATION_COUNT));
     EXPECT(placement_rotations(book.bytes, book.length, lend(&out, room - 1), room - 1), refused(PLACEMENT_SHEET, 0));
-    sheet_fits(xor_64());
-    sheet_fits(cyclic_64());
+    sheets_fit(xor_64());
+    sheets_fit(cyclic_64());
 }
 
 void test_header(void)

@@ -18,7 +18,10 @@
     SET_TO_MATCHING,
     MATCHING_TO_SET,
     SHEET,
-) = range(16)
+    WEIGHTED_REPAIR,
+    WEIGHTED_GRADE,
+    WEIGHTED_SHEET,
+) = range(19)
 
 
 def fine(value, place=0):
@@ -27,7 +30,7 @@ def fine(value, place=0):
 
 
 def moved(letter, distance):
-    """The reply of a repair."""
+    """The reply of a repair; with weights the total is given for the distance."""
     return [0, 0, 0, ord(letter), distance]
 
 
@@ -42,7 +45,7 @@ def two_bytes(number):
 
 def case(call, reply, *parts, numbers=(0, 0), room=0, out=(), gains_room=0, gains=()):
     """The bytes of a case and its line. A buffer holds what is written to it, and past that what it held before."""
-    parts = [*parts, [], [], []][:3]
+    parts = [*parts, [], [], [], []][:4]
     header = [*numbers, room, gains_room, *map(len, parts)]
     given = [call] + [byte for number in header for byte in two_bytes(number)] + sum(parts, [])
     out = [*out] + [255] * (room - len(out))

@@ -75,11 +75,11 @@ ROOMS = [
 ]
 
 
-def sheet(given, lines, room=None):
+def sheet(given, lines, room=None, call=SHEET):
     """A case with its sheet, or with 14 where there are no lines. The value is the number of bytes written."""
     out = "".join(line + "\n" for line in lines).encode()
     reply = fine(len(out)) if out else refused(14)
-    return case(SHEET, reply, given, room=len(out) + 2 if room is None else room, out=out)
+    return case(call, reply, given, room=len(out) + 2 if room is None else room, out=out)
 
 
 CASES = [sheet(given, lines) for _, given, lines in SHEETS]

@@ -1,5 +1,9 @@
-/* Runs the sheet program, whose path is the argument, on inputs of up to 8,771 bytes and more, from a file and from a
- * pipe. Each time it checks what the program prints and how many bytes it has read. Exits with 1 if a check failed. */
+/* Runs the sheet program or the weighted one on inputs of as many bytes as it reads, of fewer and of more, from a file
+ * and from a pipe. Each time it checks what the program prints and how many bytes it has read. Exits with 1 if a check
+ * failed.
+ *
+ *     sheet_program plain PROGRAM
+ *     sheet_program weighted PROGRAM */
 #define _DEFAULT_SOURCE /* fork, pipe, fileno, usleep */
 #include "../c/books.h"
 #include "../c/check.h"
@@ -10,16 +14,31 @@
 #include <sys/wait.h>
 #include <unistd.h>
 
-/* Document 01: "It reads at most 8,771 bytes." */
-#define MOST 8771
 #define LONGEST_INPUT 30000
 
-/* An input: a book, then the matching, then bytes of 0. */
+/* An input: a book, then the matching, for the weighted program the weights, then bytes of 0. */
 struct input {
     size_t length;
     uint8_t bytes[LONGEST_INPUT];
 };
 
+/* What differs between the programs. Documents 01 and 02: "It reads at most 8,771 bytes", "it reads at most 8,835". */
+static const struct kind {
+    const char *name;
+    size_t most;         /* bytes that it reads */
+    size_t parts;        /* of n bytes each, after the book */
+    const char *wrong;   /* what it prints where the last part is too short or too long */
+    const char *head;    /* cyclic lists of 64, weights of 255: the first line, and the end of every other */
+    const char *tail;
+    const char *table_1; /* Table 1 with M5, weights of 1 1 9 1 1 3 1 (tests/c/test_weights.c) */
+} kinds[2] = {
+    {"plain", 8771, 1, "refused 8\n", "64 63 63", "D 64",
+     "7 6 3\n0 4 U 2\n1 5 U 4\n2 6 D 2\n3 3 D 4\n4 1 D 2\n5 2 U 2\n6 0 D 2\n"},
+    {"weighted", 8835, 2, "refused 17\n", "64 63 16065", "D 16320",
+     "7 6 11\n0 4 D 2\n1 5 U 6\n2 6 D 10\n3 3 D 12\n4 1 D 2\n5 2 U 4\n6 0 U 6\n"},
+};
+
+static const struct kind *kind;
 static const char *program;
 
 /* Ends this process, which may be a child of the test. */
@@ -29,12 +48,21 @@ static void stop(const char *what)
     _exit(2);
 }
 
+/* The bytes of a book with what has to follow it. */
+static size_t whole(struct book book)
+{
+    return book.length + kind->parts * book.n;
+}
+
 /* The input with so many bytes in all. */
-static struct input input_of(struct book book, const uint8_t *matching, size_t length)
+static struct input input_of(struct book book, const uint8_t *matching, const uint8_t *weights, size_t length)
 {
     struct input input = {length, {0}};
+    const uint8_t *parts[2] = {matching, weights};
     memcpy(input.bytes, book.bytes, book.length);
-    memcpy(input.bytes + book.length, matching, book.n);
+    for (size_t k = 0; k < kind->parts; k++) {
+        memcpy(input.bytes + book.length + k * book.n, parts[k], book.n);
+    }
     return input;
 }
 
@@ -78,13 +106,14 @@ static size_t read_from_file(const struct input *input, char *printed)
     return (size_t)at;
 }
 
-/* Writes the input to a pipe, 1,000 bytes at a time. Up to 8,771 each piece is read before the next one is written. */
+/* Writes the input to a pipe, 1,000 bytes at a time. As long as the program reads on, each piece is read before the
+ * next one is written. */
 static void write_pieces(const struct input *input, int to)
 {
     for (size_t at = 0; at < input->length; at += 1000) {
         size_t piece = input->length - at < 1000 ? input->length - at : 1000;
         int waiting = 0;
-        while (at < MOST && ioctl(to, FIONREAD, &waiting) == 0 && waiting > 0) {
+        while (at < kind->most && ioctl(to, FIONREAD, &waiting) == 0 && waiting > 0) {
             usleep(20);
         }
         if (write(to, input->bytes + at, piece) != (ssize_t)piece) {
@@ -118,62 +147,72 @@ static size_t read_from_pipe(const struct input *input, char *printed)
     return input->length - left;
 }
 
-/* The program prints this, and has read the whole input, or 8,771 bytes of a longer one. */
+/* The program prints this, and has read the whole input, or as much of a longer one as it reads. */
 static void prints(struct input input, const char *due)
 {
     char printed[1024];
-    size_t most = input.length < MOST ? input.length : MOST;
+    size_t most = input.length < kind->most ? input.length : kind->most;
     HOLDS(read_from_file(&input, printed) == most);
     HOLDS(strcmp(printed, due) == 0);
     HOLDS(read_from_pipe(&input, printed) == most);
     HOLDS(strcmp(printed, due) == 0);
 }
 
-/* n = 64, each student with the mentor of the same number: 8,770 bytes are a book and a matching. One byte more and the
- * matching is too long, rule 8, and so it is with any number more. */
+/* n = 64, each student with the mentor of the same number: the largest whole input is one byte less than the program
+ * reads. One byte more and the last part is too long, and so it is with any number more. */
 static void largest(void)
 {
     static char due[1024];
-    uint8_t same[64];
+    uint8_t same[64], weights[64];
     struct book book = cyclic_64();
-    int length = snprintf(due, sizeof due, "64 63 63\n");
+    int length = snprintf(due, sizeof due, "%s\n", kind->head);
     for (int i = 0; i < 64; i++) {
         same[i] = (uint8_t)i;
-        length += snprintf(due + length, sizeof due - (size_t)length, "%d %d D 64\n", i, i);
+        weights[i] = 255;
+        length += snprintf(due + length, sizeof due - (size_t)length, "%d %d %s\n", i, i, kind->tail);
     }
-    prints(input_of(book, same, 8769), "refused 8\n");
-    prints(input_of(book, same, 8770), due);
-    prints(input_of(book, same, MOST), "refused 8\n");
-    prints(input_of(book, same, MOST + 1), "refused 8\n");
-    prints(input_of(book, same, LONGEST_INPUT), "refused 8\n");
+    HOLDS(whole(book) == kind->most - 1);
+    prints(input_of(book, same, weights, 8769), "refused 8\n");
+    prints(input_of(book, same, weights, whole(book) - 1), kind->wrong);
+    prints(input_of(book, same, weights, whole(book)), due);
+    prints(input_of(book, same, weights, kind->most), kind->wrong);
+    prints(input_of(book, same, weights, kind->most + 1), kind->wrong);
+    prints(input_of(book, same, weights, LONGEST_INPUT), kind->wrong);
 }
 
-/* Table 1 with M5 has 163 bytes; what follows is taken for the matching. A book that breaks a rule is refused by it,
- * however long the input is. */
+/* Table 1 with M5: all that follows is taken for the last part. A book that breaks a rule is refused by it, however
+ * long the input is. */
 static void small(void)
 {
-    struct book table_1 = book_of(7, table_1_lists);
-    prints(input_of(table_1, table_1_m5, 163),
-           "7 6 3\n0 4 U 2\n1 5 U 4\n2 6 D 2\n3 3 D 4\n4 1 D 2\n5 2 U 2\n6 0 D 2\n");
-    prints(input_of(table_1, table_1_m5, 164), "refused 8\n");
-    prints(input_of(table_1, table_1_m5, LONGEST_INPUT), "refused 8\n");
-    prints(input_of(with(table_1, 0, 2), table_1_m5, LONGEST_INPUT), "refused 2\n");
-    prints(input_of(with(table_1, 1, 65), table_1_m5, LONGEST_INPUT), "refused 3\n");
-    prints(input_of(with(table_1, 155, 7), table_1_m5, LONGEST_INPUT), "refused 6\n");
-    prints(input_of(book_of(0, ""), table_1_m5, 2), "0 0 0\n");
-    prints(input_of(book_of(0, ""), table_1_m5, LONGEST_INPUT), "refused 8\n");
-    prints(input_of(table_1, table_1_m5, 0), "refused 1\n");
+    static const uint8_t weights[7] = {1, 1, 9, 1, 1, 3, 1};
+    struct book table_1 = book_of(7, table_1_lists), nobody = book_of(0, "");
+    prints(input_of(table_1, table_1_m5, weights, whole(table_1)), kind->table_1);
+    prints(input_of(table_1, table_1_m5, weights, 162), "refused 8\n");
+    prints(input_of(table_1, table_1_m5, weights, whole(table_1) - 1), kind->wrong);
+    prints(input_of(table_1, table_1_m5, weights, whole(table_1) + 1), kind->wrong);
+    prints(input_of(table_1, table_1_m5, weights, LONGEST_INPUT), kind->wrong);
+    prints(input_of(with(table_1, 0, 2), table_1_m5, weights, LONGEST_INPUT), "refused 2\n");
+    prints(input_of(with(table_1, 1, 65), table_1_m5, weights, LONGEST_INPUT), "refused 3\n");
+    prints(input_of(with(table_1, 155, 7), table_1_m5, weights, LONGEST_INPUT), "refused 6\n");
+    prints(input_of(nobody, table_1_m5, weights, 2), "0 0 0\n");
+    prints(input_of(nobody, table_1_m5, weights, LONGEST_INPUT), kind->wrong);
+    prints(input_of(table_1, table_1_m5, weights, 0), "refused 1\n");
 }
 
 int main(int argc, char **argv)
 {
-    if (argc != 2) {
-        fprintf(stderr, "usage: sheet_program PROGRAM\n");
+    for (size_t k = 0; k < 2; k++) {
+        if (argc == 3 && strcmp(argv[1], kinds[k].name) == 0) {
+            kind = &kinds[k];
+        }
+    }
+    if (kind == NULL) {
+        fprintf(stderr, "usage: sheet_program plain|weighted PROGRAM\n");
         return 2;
     }
-    program = argv[1];
+    program = argv[2];
     largest();
     small();
-    printf("sheet program: %lu checks, %lu failed\n", checks, failures);
+    printf("%s sheet program: %lu checks, %lu failed\n", kind->name, checks, failures);
     return failures != 0;
 }

@@ -3,7 +3,7 @@
  * most of all inputs of that n, each as it is and with a book that is refused at its last byte; a repair is asked for
  * every pair. Exits with 1 if a call needs more than the header says.
  *
- *     stack FILE...       files with a book and a stable matching after it */
+ *     stack FILE...       files with a book and a stable matching after it; weights are added here */
 #define _XOPEN_SOURCE 700 /* makecontext */
 #include <placement.h>
 
@@ -15,9 +15,9 @@
 #define STACK 262144
 #define PATTERN 0xa5
 
-/* What a call is asked with: a book, a matching, its set and a student. */
-static uint8_t input[PLACEMENT_LARGEST_BOOK + PLACEMENT_LARGEST_N], set[PLACEMENT_LARGEST_ROTATION_COUNT];
-static const uint8_t *matching;
+/* What a call is asked with: a book with a matching and weights after it, the matching's set and a student. */
+static uint8_t input[PLACEMENT_LARGEST_BOOK + 2 * PLACEMENT_LARGEST_N], set[PLACEMENT_LARGEST_ROTATION_COUNT];
+static uint8_t *matching, *weights;
 static size_t book_len, matching_len, set_len, student;
 
 /* Results. */
@@ -111,6 +111,23 @@ static void sheet(void)
     reply = placement_sheet(input, book_len + matching_len, out, sizeof out);
 }
 
+static void weighted_repair(void)
+{
+    uint8_t request[2] = {(uint8_t)student, matching[student]};
+    reply = placement_weighted_repair(input, book_len, matching, matching_len, weights, matching_len, request, 2, out,
+                                      sizeof out, gains, sizeof gains);
+}
+
+static void weighted_grade(void)
+{
+    reply = placement_weighted_grade(input, book_len, matching, matching_len, weights, matching_len);
+}
+
+static void weighted_sheet(void)
+{
+    reply = placement_weighted_sheet(input, book_len + 2 * matching_len, out, sizeof out);
+}
+
 /* The calls, what the header says that each needs, and the most that was measured for each n. */
 static struct {
     const char *name;
@@ -134,6 +151,9 @@ static struct {
     {"set_to_matching", set_to_matching, PLACEMENT_STACK_ROTATIONS, {0}},
     {"matching_to_set", matching_to_set, PLACEMENT_STACK_ROTATIONS, {0}},
     {"sheet", sheet, PLACEMENT_STACK_MATCHINGS, {0}},
+    {"weighted_repair", weighted_repair, PLACEMENT_STACK_MATCHINGS, {0}},
+    {"weighted_grade", weighted_grade, PLACEMENT_STACK_MATCHINGS, {0}},
+    {"weighted_sheet", weighted_sheet, PLACEMENT_STACK_MATCHINGS, {0}},
 };
 #define CALLS (sizeof calls / sizeof calls[0])
 
@@ -176,17 +196,21 @@ static void measure_file(const char *name)
         perror(name);
         exit(2);
     }
-    size_t length = fread(input, 1, sizeof input, file);
+    size_t length = fread(input, 1, PLACEMENT_LARGEST_BOOK + PLACEMENT_LARGEST_N, file);
     fclose(file);
     book_len = placement_book_size(input[1]).value;
     matching = input + book_len;
     matching_len = length - book_len;
+    weights = matching + matching_len;
     reply = placement_matching_to_set(input, book_len, matching, matching_len, set, sizeof set);
     if (reply.number != PLACEMENT_FINE) {
         fprintf(stderr, "%s: no book with a stable matching\n", name);
         exit(2);
     }
     set_len = reply.value;
+    for (student = 0; student < matching_len; student++) {
+        weights[student] = (uint8_t)(255 - 37 * student);
+    }
     for (student = 0; student < matching_len; student++) {
         measure();
     }

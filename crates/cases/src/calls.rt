@@ -16,6 +16,7 @@ pub(crate) fn run(
     x: &[u8],
     y: &[u8],
     z: &[u8],
+    v: &[u8],
 )
     requires { ⌜ (room < 65536) × («gains_room» < 65536) ⌝ }
 {
@@ -28,6 +29,7 @@ pub(crate) fn run(
         x,
         y,
         z,
+        v,
         &mut out[..room],
         &mut gains[..gains_room],
     );
@@ -41,10 +43,11 @@ fn run_in(
     x: &[u8],
     y: &[u8],
     z: &[u8],
+    v: &[u8],
     out: &mut [u8],
     gains: &mut [i8],
 ) {
-    print_reply(make(call, first, second, x, y, z, out, gains));
+    print_reply(make(call, first, second, x, y, z, v, out, gains));
     print_text(b" :");
     print_bytes(out);
     print_text(b" :");
@@ -52,7 +55,8 @@ fn run_in(
     print_text(b"\n");
 }
 
-// Makes a call with what it takes of the two numbers, the parts x, y, z and the buffers. From 15 on it is the sheet.
+// Makes a call with what it takes of the two numbers, the parts x, y, z, v and the buffers. From 18 on it is the
+// weighted sheet.
 fn make(
     call: u8,
     first: usize,
@@ -60,6 +64,7 @@ fn make(
     x: &[u8],
     y: &[u8],
     z: &[u8],
+    v: &[u8],
     out: &mut [u8],
     gains: &mut [i8],
 ) -> Reply {
@@ -79,6 +84,9 @@ fn make(
         12 => placement::placement_precedes(x, first, second),
         13 => placement::placement_set_to_matching(x, y, out),
         14 => placement::placement_matching_to_set(x, y, out),
-        _ => placement::placement_sheet(x, out),
+        15 => placement::placement_sheet(x, out),
+        16 => placement::placement_weighted_repair(x, y, z, v, out, gains),
+        17 => placement::placement_weighted_grade(x, y, z),
+        _ => placement::placement_weighted_sheet(x, out),
     }
 }

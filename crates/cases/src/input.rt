@@ -4,8 +4,8 @@ ghost use Rattle.laws.specs.Moment.{now₀};
 ghost use Prim.Native.Nat.{_+_, _<_, _≤_};
 ghost use lib.ListN.{length};
 
-// How many bytes stand before the parts of a case: the call and seven numbers.
-const HEADER: usize = 15;
+// How many bytes stand before the parts of a case: the call and eight numbers.
+const HEADER: usize = 17;
 
 // Runs each case that is whole.
 pub(crate) fn run_all(input: &[u8]) {
@@ -18,13 +18,14 @@ pub(crate) fn run_all(input: &[u8]) {
 
 // Runs the first case and answers how many bytes it has, or, where it is not whole, how many there are.
 fn run_first(input: &[u8]) -> usize
-    requires { ⌜ 15 ≤ length (now input) ⌝ }
+    requires { ⌜ 17 ≤ length (now input) ⌝ }
     ensures { λ r. ⌜ (0 < r) × (r ≤ length (now₀ input)) ⌝ }
 {
     let x_end = HEADER + number(input, 9);
     let y_end = x_end + number(input, 11);
     let z_end = y_end + number(input, 13);
-    if input.len() < z_end {
+    let v_end = z_end + number(input, 15);
+    if input.len() < v_end {
         return input.len();
     }
     run(
@@ -36,8 +37,9 @@ fn run_first(input: &[u8]) -> usize
         &input[HEADER..x_end],
         &input[x_end..y_end],
         &input[y_end..z_end],
+        &input[z_end..v_end],
     );
-    z_end
+    v_end
 }
 
 // The number in the two bytes from k on, low byte first.

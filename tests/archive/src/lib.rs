@@ -59,6 +59,29 @@ mod c {
             out_len: usize,
         ) -> Reply;
         pub fn placement_sheet(input: *const u8, input_len: usize, out: *mut u8, out_len: usize) -> Reply;
+        pub fn placement_weighted_repair(
+            book: *const u8,
+            book_len: usize,
+            matching: *const u8,
+            matching_len: usize,
+            weights: *const u8,
+            weights_len: usize,
+            request: *const u8,
+            request_len: usize,
+            out: *mut u8,
+            out_len: usize,
+            gains: *mut i8,
+            gains_len: usize,
+        ) -> Reply;
+        pub fn placement_weighted_grade(
+            book: *const u8,
+            book_len: usize,
+            matching: *const u8,
+            matching_len: usize,
+            weights: *const u8,
+            weights_len: usize,
+        ) -> Reply;
+        pub fn placement_weighted_sheet(input: *const u8, input_len: usize, out: *mut u8, out_len: usize) -> Reply;
     }
 }
 
@@ -158,4 +181,40 @@ pub fn matching_to_set(book: &[u8], matching: &[u8], out: &mut [u8]) -> Reply {
 
 pub fn sheet(input: &[u8], out: &mut [u8]) -> Reply {
     unsafe { c::placement_sheet(at(input), input.len(), at_mut(out), out.len()) }
+}
+
+pub fn weighted_repair(
+    book: &[u8],
+    matching: &[u8],
+    weights: &[u8],
+    request: &[u8],
+    out: &mut [u8],
+    gains: &mut [i8],
+) -> Reply {
+    let (out_len, gains_len) = (out.len(), gains.len());
+    unsafe {
+        c::placement_weighted_repair(
+            at(book),
+            book.len(),
+            at(matching),
+            matching.len(),
+            at(weights),
+            weights.len(),
+            at(request),
+            request.len(),
+            at_mut(out),
+            out_len,
+            at_mut(gains),
+            gains_len,
+        )
+    }
+}
+
+pub fn weighted_grade(book: &[u8], matching: &[u8], weights: &[u8]) -> Reply {
+    let (book_len, matching_len, weights_len) = (book.len(), matching.len(), weights.len());
+    unsafe { c::placement_weighted_grade(at(book), book_len, at(matching), matching_len, at(weights), weights_len) }
+}
+
+pub fn weighted_sheet(input: &[u8], out: &mut [u8]) -> Reply {
+    unsafe { c::placement_weighted_sheet(at(input), input.len(), at_mut(out), out.len()) }
 }

@@ -84,6 +84,32 @@ impl Both {
         b
     }
 
+    /// Makes a call with two result buffers of these lengths, the second for gains, on both sides.
+    fn lending_two(
+        &mut self,
+        call: &str,
+        inputs: &[&[u8]],
+        [room, gains_room]: [usize; 2],
+        archive: impl Fn(&mut [u8], &mut [i8]) -> Reply,
+        independent: impl Fn(&mut [u8], &mut [i8]) -> Reply,
+    ) -> Reply {
+        let (mut out, mut gains) = (Lent::new(room, &mut self.random), Lent::new(gains_room, &mut self.random));
+        let (mut out2, mut gains2) = (out.clone(), gains.clone());
+        let a = archive(out.buffer(), gains.signed());
+        let b = independent(out2.buffer(), gains2.signed());
+        self.tally.count(b);
+        if a != b || out != out2 || gains != gains2 {
+            let bytes = (out.difference(&out2), gains.difference(&gains2));
+            let call = format!("{call}, buffers of {room} and {gains_room}, first differences {bytes:?}");
+            let text = |reply, out: &mut Lent, gains: &mut Lent| {
+                format!("{reply:?}, {}, gains {:?}", hex(out.buffer()), gains.signed())
+            };
+            let (a, b) = (text(a, &mut out, &mut gains), text(b, &mut out2, &mut gains2));
+            self.tally.differ(&call, inputs, a, b);
+        }
+        b
+    }
+
     pub fn check_book(&mut self, book: &[u8]) -> Reply {
         self.replies("check_book", &[book], archive::check_book(book), calls::check_book(book))
     }
@@ -165,20 +191,40 @@ impl Both {
         self.lending("sheet", &[input], room, |out| archive::sheet(input, out), |out| calls::sheet(input, out));
     }
 
-    pub fn repair(&mut self, book: &[u8], m: &[u8], request: &[u8], room: usize, gains_room: usize) {
-        let (mut out, mut gains) = (Lent::new(room, &mut self.random), Lent::new(gains_room, &mut self.random));
-        let (mut out2, mut gains2) = (out.clone(), gains.clone());
-        let a = archive::repair(book, m, request, out.buffer(), gains.signed());
-        let b = calls::repair(book, m, request, out2.buffer(), gains2.signed());
-        self.tally.count(b);
-        if a != b || out != out2 || gains != gains2 {
-            let bytes = (out.difference(&out2), gains.difference(&gains2));
-            let call = format!("repair, buffers of {room} and {gains_room}, first differences {bytes:?}");
-            let text = |reply, out: &mut Lent, gains: &mut Lent| {
-                format!("{reply:?}, {}, gains {:?}", hex(out.buffer()), gains.signed())
-            };
-            let (a, b) = (text(a, &mut out, &mut gains), text(b, &mut out2, &mut gains2));
-            self.tally.differ(&call, &[book, m, request], a, b);
-        }
+    pub fn repair(&mut self, book: &[u8], m: &[u8], request: &[u8], room: usize, gains_room: usize) -> Reply {
+        self.lending_two(
+            "repair",
+            &[book, m, request],
+            [room, gains_room],
+            |out, gains| archive::repair(book, m, request, out, gains),
+            |out, gains| calls::repair(book, m, request, out, gains),
+        )
+    }
+
+    pub fn weighted_grade(&mut self, book: &[u8], m: &[u8], weights: &[u8]) {
+        let (a, b) = (archive::weighted_grade(book, m, weights), calls::weighted_grade(book, m, weights));
+        self.replies("weighted_grade", &[book, m, weights], a, b);
+    }
+
+    pub fn weighted_sheet(&mut self, input: &[u8], room: usize) {
+        let archive = |out: &mut [u8]| archive::weighted_sheet(input, out);
+        self.lending("weighted_sheet", &[input], room, archive, |out| calls::weighted_sheet(input, out));
+    }
+
+    pub fn weighted_repair(
+        &mut self,
+        book: &[u8],
+        m: &[u8],
+        weights: &[u8],
+        request: &[u8],
+        rooms: [usize; 2],
+    ) -> Reply {
+        self.lending_two(
+            "weighted_repair",
+            &[book, m, weights, request],
+            rooms,
+            |out, gains| archive::weighted_repair(book, m, weights, request, out, gains),
+            |out, gains| calls::weighted_repair(book, m, weights, request, out, gains),
+        )
     }
 }

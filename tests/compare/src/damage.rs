@@ -3,6 +3,7 @@
 
 use crate::both::Both;
 use crate::sound::{with, Sound};
+use crate::weights;
 use independent::book;
 use independent::random::Random;
 
@@ -79,17 +80,29 @@ fn ask_all(both: &mut Both, sound: &Sound, damaged: &[u8], matching: &[u8]) {
     both.repair(damaged, &[], &[], 0, 0);
     both.sheet(damaged, 1024);
     both.sheet(&[damaged, matching].concat(), little_room);
+    let weights = weights::any_length(n, &mut both.random);
+    both.weighted_grade(damaged, matching, &weights);
+    both.weighted_repair(damaged, matching, &weights, &request, [n, n]);
+    both.weighted_repair(damaged, &[], &[], &[], [0, 0]);
+    both.weighted_sheet(&[damaged, matching, &weights].concat(), 1024);
 }
 
-/// Sheets of input that is cut off or too long.
+/// Sheets of input that is cut off or too long; the weighted ones cut off about the matching and the weights too.
 fn ask_sheets(both: &mut Both, sound: &Sound, matching: &[u8]) {
     let input = [&sound.book[..], matching].concat();
+    let weighted = [&input[..], &weights::any(sound.n, &mut both.random)].concat();
     for _ in 0..3 {
-        let length = both.random.below(input.len() + 1);
+        let (length, weighted_length) = (both.random.below(input.len() + 1), both.random.below(weighted.len() + 1));
         both.sheet(&input[..length], 1024);
+        both.weighted_sheet(&weighted[..weighted_length], 1024);
+    }
+    for length in [input.len().saturating_sub(1), input.len(), input.len() + 1, weighted.len() - 1] {
+        both.weighted_sheet(&weighted[..length.min(weighted.len())], 1024);
     }
     both.sheet(&[&input[..], &[0]].concat(), 1024);
     both.sheet(&[&input[..], &vec![0; 8771]].concat(), 1024);
+    both.weighted_sheet(&[&weighted[..], &[0]].concat(), 1024);
+    both.weighted_sheet(&[&weighted[..], &vec![0; 8835]].concat(), 1024);
 }
 
 /// The writer with lists that are cut off, too long or damaged, with n that is wrong, and with short buffers.

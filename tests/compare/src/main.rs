@@ -8,6 +8,7 @@ mod both;
 mod damage;
 mod sound;
 mod tally;
+mod weights;
 
 use both::Both;
 use independent::random::Random;

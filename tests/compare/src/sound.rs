@@ -1,9 +1,11 @@
 //! Questions to a well-formed book: good ones, and ones that break each rule after the book's.
 
 use crate::both::Both;
+use crate::weights;
 use independent::instance;
 use independent::poset::Poset;
 use independent::random::Random;
+use independent::reply::Reply;
 use independent::samples;
 
 /// A well-formed book and its rotation poset, which the questions are taken from.
@@ -35,6 +37,7 @@ impl Sound {
         }
         self.ask_bad_matchings(both, &matchings[0]);
         self.ask_bad_requests(both, &matchings[0]);
+        self.ask_bad_weights(both, &matchings[0]);
         assert_eq!(self.book, before, "a call has written to the book");
     }
 
@@ -135,7 +138,7 @@ impl Sound {
         sets.iter().map(|set| self.poset.matching(set)[..self.n].to_vec()).collect()
     }
 
-    /// A stable matching: its set, its grade, its sheet and the repairs of all its pairs.
+    /// A stable matching: its set, its grade, its sheet and the repairs of all its pairs, plain and weighted.
     fn ask_matching(&self, both: &mut Both, matching: &[u8]) {
         both.check_matching(&self.book, matching);
         both.grade(&self.book, matching);
@@ -147,10 +150,12 @@ impl Sound {
         for room in [size, size - 1, 1024] {
             both.sheet(&input, room);
         }
-        for man in 0..self.n {
+        let plain = |man: usize| {
             let more = both.random.below(3);
-            both.repair(&self.book, matching, &[man as u8, matching[man]], self.n + more, self.n + 2 - more);
-        }
+            both.repair(&self.book, matching, &[man as u8, matching[man]], self.n + more, self.n + 2 - more)
+        };
+        let plain: Vec<Reply> = (0..self.n).map(plain).collect();
+        self.ask_weighted(both, matching, &plain);
     }
 
     /// Matchings that break 8, 9 or 10, alone and with other faults behind them.
@@ -173,6 +178,7 @@ impl Sound {
             both.sheet(&input, little_room);
             both.repair(&self.book, &matching, &[0, stable.first().copied().unwrap_or(0)], self.n, self.n);
             both.repair(&self.book, &matching, &[0], 0, self.n);
+            self.ask_weighted_bad_matching(both, &matching);
         }
     }
 
@@ -194,11 +200,13 @@ impl Sound {
             &[other, own],
             &[0, own],
         ];
+        let (n, less) = (self.n, self.n.saturating_sub(1));
         for request in requests {
-            both.repair(&self.book, stable, request, self.n, self.n);
-            both.repair(&self.book, stable, request, self.n.saturating_sub(1), self.n);
-            both.repair(&self.book, stable, request, self.n, self.n.saturating_sub(1));
-            both.repair(&self.book, stable, request, 0, 0);
+            for [room, gains_room] in [[n, n], [less, n], [n, less], [0, 0]] {
+                both.repair(&self.book, stable, request, room, gains_room);
+                let weights = weights::any(n, &mut both.random);
+                both.weighted_repair(&self.book, stable, &weights, request, [room, gains_room]);
+            }
         }
     }
 }

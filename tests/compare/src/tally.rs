@@ -15,8 +15,12 @@ pub struct Tally {
     pub calls: usize,
     /// Answers with U, D and F.
     pub letters: [usize; 3],
+    /// Weighted answers with U where the plain one is D, and with D where it is U.
+    pub turned: [usize; 2],
+    /// Weighted answers with U or D and a total of 0.
+    pub weightless: usize,
     /// Refusals by number; at 0 the calls that were not refused.
-    pub refusals: [usize; 17],
+    pub refusals: [usize; 18],
     pub differences: usize,
 }
 
@@ -28,6 +32,14 @@ impl Tally {
         if let Some(letter) = ['U', 'D', 'F'].iter().position(|&c| c as usize == reply.letter) {
             self.letters[letter] += 1;
         }
+    }
+
+    /// Counts a weighted answer beside the plain one for the same pair.
+    pub fn weigh(&mut self, plain: Reply, weighted: Reply) {
+        let turned = |from: char, to: char| plain.letter == from as usize && weighted.letter == to as usize;
+        self.turned[0] += turned('D', 'U') as usize;
+        self.turned[1] += turned('U', 'D') as usize;
+        self.weightless += (plain.value > 0 && weighted.value == 0) as usize;
     }
 
     /// Counts a difference, and prints it if it is one of the first.
@@ -46,16 +58,19 @@ impl Tally {
 
     /// What never occurred and should have.
     pub fn missing(&self) -> Vec<String> {
-        let refusals = (0..17).filter(|&k| self.refusals[k] == 0).map(|k| format!("refusal {k}"));
+        let refusals = (0..18).filter(|&k| self.refusals[k] == 0).map(|k| format!("refusal {k}"));
         let letters = (0..3).filter(|&k| self.letters[k] == 0).map(|k| format!("letter {}", ["U", "D", "F"][k]));
         let books = (self.largest_books == 0).then(|| "book of 64".to_string());
-        refusals.chain(letters).chain(books).collect()
+        let turned = (0..2).filter(|&k| self.turned[k] == 0).map(|k| format!("weights that give {}", ["U", "D"][k]));
+        let weightless = (self.weightless == 0).then(|| "repair of weight 0".to_string());
+        refusals.chain(letters).chain(books).chain(turned).chain(weightless).collect()
     }
 
     pub fn print(&self) {
-        let [up, down, fixed] = self.letters;
+        let ([up, down, fixed], [turned_up, turned_down]) = (self.letters, self.turned);
         println!("books {} ({} of n = 64), stable matchings {}", self.books, self.largest_books, self.matchings);
         println!("damaged books {}, calls {}: U {up}, D {down}, F {fixed}", self.damaged_books, self.calls);
+        println!("weights: {turned_up} D to U, {turned_down} U to D, {} totals of 0", self.weightless);
         let mut line = String::from("refused");
         for (number, times) in self.refusals.iter().enumerate().skip(1) {
             write!(line, " {number}: {times}").expect("a string takes everything");

@@ -15,8 +15,14 @@ pub fn lists_start(n: usize) -> usize {
     2 + 8 * n
 }
 
+/// An input taken apart: the book, as many bytes as its byte 1 says or all if there are fewer, and what follows it.
+pub fn and_rest(input: &[u8]) -> (&[u8], &[u8]) {
+    let size = input.get(1).map_or(input.len(), |&n| size(n as usize));
+    input.split_at(size.min(input.len()))
+}
+
 /// n, from the two bytes at the front: under 2 bytes, then 2, then 3.
-pub fn people(book: &[u8]) -> Checked<usize> {
+fn people(book: &[u8]) -> Checked<usize> {
     rule(book.len() < 2, 1, book.len())?;
     rule(book[0] != 1, 2, 0)?;
     rule(book[1] as usize > LARGEST, 3, 1)?;

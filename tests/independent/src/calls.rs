@@ -9,6 +9,7 @@ use crate::poset::Poset;
 use crate::repair::{self, Answer, Repairs};
 use crate::reply::{reply, rule, Checked, Reply};
 use crate::sheet;
+use crate::weights::{self, Weights};
 
 pub fn check_book(book: &[u8]) -> Reply {
     reply(|| book::check(book))
@@ -64,16 +65,35 @@ fn lend(out: &mut [u8], size: usize, write: impl FnOnce(&mut [u8])) -> Checked<u
 }
 
 pub fn repair(book: &[u8], matching: &[u8], request: &[u8], out: &mut [u8], gains: &mut [i8]) -> Reply {
-    match repaired(book, matching, request, out, gains) {
-        Ok(answer) => Reply { letter: answer.letter() as usize, ..Reply::value(answer.distance() as usize) },
+    weighted_repair(book, matching, weights::ones(book), request, out, gains)
+}
+
+pub fn weighted_repair(
+    book: &[u8],
+    matching: &[u8],
+    weights: &[u8],
+    request: &[u8],
+    out: &mut [u8],
+    gains: &mut [i8],
+) -> Reply {
+    match repaired(book, matching, weights, request, out, gains) {
+        Ok(answer) => Reply { letter: answer.letter() as usize, ..Reply::value(answer.total()) },
         Err(refusal) => refusal.into(),
     }
 }
 
-fn repaired(book: &[u8], given: &[u8], request: &[u8], out: &mut [u8], gains: &mut [i8]) -> Checked<Answer> {
+fn repaired(
+    book: &[u8],
+    given: &[u8],
+    weights: &[u8],
+    request: &[u8],
+    out: &mut [u8],
+    gains: &mut [i8],
+) -> Checked<Answer> {
     let instance = instance::read(book)?;
     let n = instance.n;
     let matching = matching::stable(&instance, given)?;
+    let weights = Weights::read(n, weights)?;
     rule(request.len() != 2, 13, 0)?;
     let (man, woman) = (request[0], request[1]);
     rule(man as usize >= n || woman as usize >= n, 11, 0)?;
@@ -81,7 +101,7 @@ fn repaired(book: &[u8], given: &[u8], request: &[u8], out: &mut [u8], gains: &m
     rule(out.len() < n || gains.len() < n, 14, 0)?;
     let poset = Poset::of(&instance);
     let repairs = Repairs::of(&instance, &poset, &matching, 1 << man);
-    let answer = repairs.answer(man);
+    let answer = repairs.answer(man, &weights);
     if answer != Answer::Fixed {
         out[..n].copy_from_slice(&repairs.matching(&matching, man, answer)[..n]);
         for m in 0..n as u8 {
@@ -93,10 +113,15 @@ fn repaired(book: &[u8], given: &[u8], request: &[u8], out: &mut [u8], gains: &m
 }
 
 pub fn grade(book: &[u8], matching: &[u8]) -> Reply {
+    weighted_grade(book, matching, weights::ones(book))
+}
+
+pub fn weighted_grade(book: &[u8], matching: &[u8], weights: &[u8]) -> Reply {
     reply(|| {
         let instance = instance::read(book)?;
         let matching = matching::stable(&instance, matching)?;
-        Ok(repair::all(&instance, &Poset::of(&instance), &matching).1)
+        let weights = Weights::read(instance.n, weights)?;
+        Ok(repair::all(&instance, &Poset::of(&instance), &matching, &weights).1)
     })
 }
 
@@ -143,6 +168,14 @@ pub fn matching_to_set(book: &[u8], matching: &[u8], out: &mut [u8]) -> Reply {
 }
 
 pub fn sheet(input: &[u8], out: &mut [u8]) -> Reply {
-    let text = sheet::text(input);
-    reply(|| lend(out, text.len(), |out| out.copy_from_slice(&text)))
+    lend_text(out, &sheet::text(input))
+}
+
+pub fn weighted_sheet(input: &[u8], out: &mut [u8]) -> Reply {
+    lend_text(out, &sheet::weighted_text(input))
+}
+
+/// The reply of a sheet, which goes to the buffer.
+fn lend_text(out: &mut [u8], text: &[u8]) -> Reply {
+    reply(|| lend(out, text.len(), |out| out.copy_from_slice(text)))
 }

@@ -9,8 +9,9 @@
 //! - `search`: all rotations, in the order in which a search meets them, with the edges of the poset
 //! - `numbering`: the rotations in the order of document 01's numbers
 //! - `poset`: precedence, closed subsets
-//! - `repair`: repairs of one pair or of all pairs of a matching, grade
-//! - `sheet`: the printed sheet
+//! - `weights`: rule 17, the total weight of a set of men
+//! - `repair`: repairs of one pair or of all pairs of a matching, grade; plain ones are those with weights of 1
+//! - `sheet`: the printed sheet, plain and weighted
 //! - `calls`: the functions of include/placement.h over slices
 //! - `reply`, `groups`: the form of the answers, and a form of storage
 //! - `random`, `samples`: books to try: random ones, and ones with many stable matchings
@@ -29,3 +30,4 @@ pub mod reply;
 pub mod samples;
 pub mod search;
 pub mod sheet;
+pub mod weights;

@@ -5,19 +5,22 @@
 //! The repairs of all pairs are worked out together: a set of men is a 64-bit number, and each rotation gets the set
 //! of those men whose repair takes it out of S, or into S. These sets go along the edges of the poset, which makes the
 //! transitive closure; one pass over the rotations does for all pairs.
+//!
+//! Both repairs of a pair are the same whatever men weigh; weights say which of the two is taken.
 
 use crate::instance::Instance;
 use crate::matching::{Matching, Partners};
 use crate::poset::{self, Poset};
+use crate::weights::Weights;
 
 /// No rotation.
 const NONE: u16 = u16::MAX;
 
-/// A repair, by its distance; or the pair is fixed.
+/// A repair, by the total weight of the men whom it moves; or the pair is fixed.
 #[derive(Clone, Copy, Debug, PartialEq, Eq)]
 pub enum Answer {
-    Up(u8),
-    Down(u8),
+    Up(usize),
+    Down(usize),
     Fixed,
 }
 
@@ -30,10 +33,10 @@ impl Answer {
         }
     }
 
-    /// The distance, 0 where the pair is fixed.
-    pub fn distance(self) -> u8 {
+    /// The total weight, 0 where the pair is fixed.
+    pub fn total(self) -> usize {
         match self {
-            Answer::Up(distance) | Answer::Down(distance) => distance,
+            Answer::Up(total) | Answer::Down(total) => total,
             Answer::Fixed => 0,
         }
     }
@@ -113,11 +116,11 @@ impl<'a> Repairs<'a> {
         self.down_moves = transposed(moved_by);
     }
 
-    /// The answer for a man's pair: the nearer repair, at equal distance up.
-    pub fn answer(&self, man: u8) -> Answer {
+    /// The answer for a man's pair: the repair that moves the smaller total weight, at equal totals up.
+    pub fn answer(&self, man: u8, weights: &Weights) -> Answer {
         let man = man as usize & 63;
-        let up = self.up_moves[man].count_ones() as u8;
-        let down = self.down_moves[man].count_ones() as u8;
+        let up = weights.total(self.up_moves[man]);
+        let down = weights.total(self.down_moves[man]);
         match (self.produced_by[man] != NONE, self.eliminated_by[man] != NONE) {
             (true, true) if up <= down => Answer::Up(up),
             (true, false) => Answer::Up(up),
@@ -145,12 +148,14 @@ impl<'a> Repairs<'a> {
     }
 }
 
-/// The answers for all men, and the grade: the largest distance of a repair, less 1, or 0 if all pairs are fixed.
-pub fn all(instance: &Instance, poset: &Poset, matching: &Matching) -> (Vec<Answer>, usize) {
+/// The answers for all men, and the grade: the largest total of a repair, less the asking man's weight, or 0 if all
+/// pairs are fixed.
+pub fn all(instance: &Instance, poset: &Poset, matching: &Matching, weights: &Weights) -> (Vec<Answer>, usize) {
     let repairs = Repairs::of(instance, poset, matching, u64::MAX);
-    let answers: Vec<Answer> = (0..instance.n as u8).map(|m| repairs.answer(m)).collect();
-    let grade = answers.iter().map(|a| a.distance().saturating_sub(1)).max().unwrap_or(0);
-    (answers, grade as usize)
+    let answers: Vec<Answer> = (0..instance.n as u8).map(|m| repairs.answer(m, weights)).collect();
+    let repaired = answers.iter().enumerate().filter(|(_, &answer)| answer != Answer::Fixed);
+    let grade = repaired.map(|(m, answer)| answer.total() - weights.total(1 << m)).max().unwrap_or(0);
+    (answers, grade)
 }
 
 /// The table of bits with rows and columns exchanged: halves of 32, then of 16, and so on, change places.

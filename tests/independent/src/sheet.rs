@@ -1,4 +1,5 @@
-//! The sheet: n, rotations, grade; then a line for each man. A refusal is printed by its number.
+//! The sheet: n, rotations, grade; then a line for each man. A refusal is printed by its number. The plain sheet is the
+//! weighted one with weights of 1.
 
 use crate::book;
 use crate::instance;
@@ -6,11 +7,26 @@ use crate::matching;
 use crate::poset::Poset;
 use crate::repair;
 use crate::reply::Checked;
+use crate::weights::{self, Weights};
 
 /// The text of the sheet of a book with a matching after it.
 pub fn text(input: &[u8]) -> Vec<u8> {
+    let (book, matching) = book::and_rest(input);
+    printed(book, matching, weights::ones(book))
+}
+
+/// The text of the weighted sheet of a book with a matching of n bytes and then weights after it.
+pub fn weighted_text(input: &[u8]) -> Vec<u8> {
+    let (book, rest) = book::and_rest(input);
+    let n = book.get(1).map_or(0, |&n| n as usize);
+    let (matching, weights) = rest.split_at(n.min(rest.len()));
+    printed(book, matching, weights)
+}
+
+/// The sheet, or the line of the refusal.
+fn printed(book: &[u8], given: &[u8], weights: &[u8]) -> Vec<u8> {
     let mut sheet = Vec::with_capacity(1024);
-    if let Err(refusal) = write(input, &mut sheet) {
+    if let Err(refusal) = write(book, given, weights, &mut sheet) {
         sheet.clear();
         sheet.extend_from_slice(b"refused ");
         number(&mut sheet, refusal.number as usize, b'\n');
@@ -19,14 +35,13 @@ pub fn text(input: &[u8]) -> Vec<u8> {
 }
 
 /// Writes the sheet, or refuses.
-fn write(input: &[u8], sheet: &mut Vec<u8>) -> Checked<()> {
-    let n = book::people(input)?;
-    let (book, given) = input.split_at(input.len().min(book::size(n)));
+fn write(book: &[u8], given: &[u8], weights: &[u8], sheet: &mut Vec<u8>) -> Checked<()> {
     let instance = instance::read(book)?;
     let matching = matching::stable(&instance, given)?;
+    let weights = Weights::read(instance.n, weights)?;
     let poset = Poset::of(&instance);
-    let (answers, grade) = repair::all(&instance, &poset, &matching);
-    number(sheet, n, b' ');
+    let (answers, grade) = repair::all(&instance, &poset, &matching, &weights);
+    number(sheet, instance.n, b' ');
     number(sheet, poset.count(), b' ');
     number(sheet, grade, b'\n');
     for (man, answer) in answers.iter().enumerate() {
@@ -34,7 +49,7 @@ fn write(input: &[u8], sheet: &mut Vec<u8>) -> Checked<()> {
         number(sheet, given[man] as usize, b' ');
         sheet.push(answer.letter());
         sheet.push(b' ');
-        number(sheet, answer.distance() as usize, b'\n');
+        number(sheet, answer.total(), b'\n');
     }
     Ok(())
 }

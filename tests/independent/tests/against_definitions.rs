@@ -3,32 +3,14 @@
 
 mod definitions;
 
-use definitions::rotations::{closed, matching_of, Rotation};
-use definitions::{bytes, distance, permutations, Market, Matching};
+use definitions::known::{every_book, Known};
+use definitions::rotations::{closed, matching_of};
+use definitions::{bytes, distance, permutations, Matching};
 use independent::random::Random;
 use independent::reply::Reply;
 use independent::{calls, samples};
 
-/// A book with all that the definitions say of it.
-struct Known {
-    book: Vec<u8>,
-    market: Market,
-    stable: Vec<Matching>,
-    rotations: Vec<Rotation>,
-}
-
 impl Known {
-    fn new(n: usize, lists: &[u8]) -> Known {
-        let market = Market::new(n, lists);
-        let stable = market.stable_matchings();
-        let rotations = market.numbered(market.best_for_men(&stable).unwrap());
-        Known { book: samples::book(n, lists), market, stable, rotations }
-    }
-
-    fn optimal(&self) -> &Matching {
-        self.market.best_for_men(&self.stable).unwrap()
-    }
-
     fn test(&self) {
         self.test_extremes();
         self.test_rotations();
@@ -103,11 +85,12 @@ impl Known {
 
     fn test_repairs(&self, given: &Matching) {
         let n = self.market.n;
+        let ones = vec![1; n];
         for man in 0..n {
             let request = [man as u8, given[man] as u8];
             let (mut out, mut gains) = (vec![99; n], vec![99; n]);
             let reply = calls::repair(&self.book, &bytes(given), &request, &mut out, &mut gains);
-            let Some((letter, repaired)) = self.market.answer(&self.stable, given, man) else {
+            let Some((letter, repaired)) = self.market.answer(&self.stable, given, &ones, man) else {
                 assert_eq!(reply, Reply { letter: b'F' as usize, ..Reply::default() });
                 assert!(out.iter().all(|&b| b == 99) && gains.iter().all(|&g| g == 99));
                 continue;
@@ -117,10 +100,10 @@ impl Known {
             let gain = |i: usize| self.market.place(i, given[i]) as i8 - self.market.place(i, repaired[i]) as i8;
             assert_eq!(gains, (0..n).map(gain).collect::<Vec<_>>());
         }
-        let grade = self.market.grade(&self.stable, given);
+        let grade = self.market.grade(&self.stable, given, &ones);
         assert_eq!(calls::grade(&self.book, &bytes(given)), Reply::value(grade));
         let input = [&self.book[..], &bytes(given)].concat();
-        let sheet = self.market.sheet(&self.stable, self.rotations.len(), given);
+        let sheet = self.market.sheet(&self.stable, self.rotations.len(), given, &ones);
         assert_eq!(String::from_utf8(independent::sheet::text(&input)).unwrap(), sheet);
     }
 }
@@ -128,19 +111,7 @@ impl Known {
 #[test]
 fn every_book_of_up_to_three() {
     for n in 0..4 {
-        let orders = permutations(n);
-        let books = orders.len().pow(2 * n as u32);
-        for book in 0..books {
-            let mut rest = book;
-            let lists: Vec<u8> = (0..2 * n)
-                .flat_map(|_| {
-                    let order = &orders[rest % orders.len()];
-                    rest /= orders.len();
-                    bytes(order)
-                })
-                .collect();
-            Known::new(n, &lists).test();
-        }
+        every_book(n).for_each(|known| known.test());
     }
 }
 

@@ -157,3 +157,45 @@ pub unsafe extern "C" fn placement_matching_to_set(
 pub unsafe extern "C" fn placement_sheet(input: *const u8, input_len: usize, out: *mut u8, out_len: usize) -> Reply {
     calls::sheet(lent(input, input_len), lent_mut(out, out_len))
 }
+
+#[no_mangle]
+pub unsafe extern "C" fn placement_weighted_repair(
+    book: *const u8,
+    book_len: usize,
+    matching: *const u8,
+    matching_len: usize,
+    weights: *const u8,
+    weights_len: usize,
+    request: *const u8,
+    request_len: usize,
+    out: *mut u8,
+    out_len: usize,
+    gains: *mut i8,
+    gains_len: usize,
+) -> Reply {
+    let (book, matching) = (lent(book, book_len), lent(matching, matching_len));
+    let (weights, request) = (lent(weights, weights_len), lent(request, request_len));
+    calls::weighted_repair(book, matching, weights, request, lent_mut(out, out_len), lent_mut(gains, gains_len))
+}
+
+#[no_mangle]
+pub unsafe extern "C" fn placement_weighted_grade(
+    book: *const u8,
+    book_len: usize,
+    matching: *const u8,
+    matching_len: usize,
+    weights: *const u8,
+    weights_len: usize,
+) -> Reply {
+    calls::weighted_grade(lent(book, book_len), lent(matching, matching_len), lent(weights, weights_len))
+}
+
+#[no_mangle]
+pub unsafe extern "C" fn placement_weighted_sheet(
+    input: *const u8,
+    input_len: usize,
+    out: *mut u8,
+    out_len: usize,
+) -> Reply {
+    calls::weighted_sheet(lent(input, input_len), lent_mut(out, out_len))
+}

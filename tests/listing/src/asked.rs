@@ -2,13 +2,11 @@
 //!
 //! "After the book, as far as a call takes such input or a result buffer: 8, 9, 10, then 13, 11, 12, then 14; for a
 //! set 15, 16, 14; for one list or two rotations 11." "Nothing is written on refusal; on success nothing past the
-//! result."
+//! result." The calls on repairs stand in `repair_calls`.
 
 use crate::book;
 use crate::lists::Lists;
 use crate::matching::Matching;
-use crate::people::{Man, Woman};
-use crate::repair::Answer;
 use crate::reply::{granted, refused, Granted, Refusal, Reply};
 use crate::rotation::list_bytes;
 use crate::runs::Runs;
@@ -19,7 +17,7 @@ use std::cell::OnceCell;
 /// Bytes that are asked about as a book: their n or the rule they break, and what has been listed.
 pub struct Asked<'a> {
     book: &'a [u8],
-    checked: Result<usize, Refusal>,
+    pub(crate) checked: Result<usize, Refusal>,
     listing: OnceCell<Listing>,
     runs: OnceCell<Runs>,
 }
@@ -106,46 +104,6 @@ impl Asked<'_> {
         granted(n)
     }
 
-    /// The repair of one pair: "Fixed writes neither matching nor gains, yet both buffers must hold n entries or 14
-    /// is given."
-    pub fn repair(&self, matching: &[u8], request: &[u8], out: &mut [u8], gains: &mut [i8]) -> Reply {
-        let given = self.stable_matching(matching)?;
-        let man = self.requested(&given, request)?;
-        let n = self.checked?;
-        if out.len() < n || gains.len() < n {
-            return refused(14, 0);
-        }
-        let answer = self.listing().answer(&given, man);
-        if let Answer::Up(repaired, _) | Answer::Down(repaired, _) = answer {
-            out[..n].copy_from_slice(&repaired.bytes());
-            gains[..n].copy_from_slice(&self.listing().gains(&given, repaired));
-        }
-        Ok(Granted { letter: Some(answer.letter()), value: answer.distance(), place: 0 })
-    }
-
-    /// The asking man of a request: 13, "request is not exactly two bytes, student then mentor"; 11; 12, "the two are
-    /// not together".
-    fn requested(&self, given: &Matching, request: &[u8]) -> Result<Man, Refusal> {
-        let n = self.checked?;
-        let &[student, mentor] = request else {
-            return refused(13, 0);
-        };
-        let (man, woman) = (Man(student), Woman(mentor));
-        if man.index() >= n || woman.index() >= n {
-            return refused(11, 0);
-        }
-        if !given.holds(man, woman) {
-            return refused(12, 0);
-        }
-        Ok(man)
-    }
-
-    /// The grade of a matching.
-    pub fn grade(&self, matching: &[u8]) -> Reply {
-        let given = self.stable_matching(matching)?;
-        granted(self.listing().grade(&given))
-    }
-
     /// How many rotations there are.
     pub fn rotation_count(&self) -> Reply {
         self.checked?;
@@ -221,6 +179,13 @@ pub fn write_book(n: usize, lists: &[u8], out: &mut [u8]) -> Reply {
 /// The sheet of a book with a matching after it; the value is how many bytes it has written.
 pub fn sheet(input: &[u8], out: &mut [u8]) -> Reply {
     let text = sheet::text(input);
+    put(out, text.as_bytes())?;
+    granted(text.len())
+}
+
+/// The weighted sheet of a book with a matching and weights after it; the value is how many bytes it has written.
+pub fn weighted_sheet(input: &[u8], out: &mut [u8]) -> Reply {
+    let text = sheet::weighted_text(input);
     put(out, text.as_bytes())?;
     granted(text.len())
 }

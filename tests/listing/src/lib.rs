@@ -3,7 +3,8 @@
 //! with the library or with the crate `independent`. Listing is meant for n up to 7; the book's rules and the writer
 //! go up to 64.
 //!
-//! Document 01's students are men here and its mentors women, as in its source. Quotation marks hold its sentences.
+//! Document 01's students are men here and its mentors women, as in its source. Quotation marks hold its sentences,
+//! and on weights those of document 02's W-201.
 //!
 //! - `people`: a man's number and a woman's
 //! - `reply`: what a call answers, refusals
@@ -13,9 +14,10 @@
 //! - `stable`: blocking pairs, rule 10, all stable matchings, the two extreme ones
 //! - `rotation`: next mentor, exposed rotations, elimination, numbers
 //! - `runs`: runs of eliminations, precedence, closed sets and their matchings
+//! - `weights`: rule 17, the total weight of the men whom a matching moves
 //! - `repair`: fixed pairs, repairs up and down, the answer, the grade
-//! - `sheet`: the printed sheet
-//! - `asked`: the calls of include/placement.h
+//! - `sheet`: the printed sheet, plain and weighted
+//! - `asked`, `repair_calls`: the calls of include/placement.h
 
 pub mod asked;
 pub mod book;
@@ -23,8 +25,10 @@ pub mod lists;
 pub mod matching;
 pub mod people;
 pub mod repair;
+mod repair_calls;
 pub mod reply;
 pub mod rotation;
 pub mod runs;
 pub mod sheet;
 pub mod stable;
+pub mod weights;

@@ -48,9 +48,14 @@ impl Matching {
         self.woman_of(man) == woman
     }
 
+    /// "A matching moves the students whose mentors in it differ from those in the given one."
+    pub fn moved<'a>(&'a self, given: &'a Matching) -> impl Iterator<Item = Man> + 'a {
+        Man::all(self.0.len()).filter(|&man| self.woman_of(man) != given.woman_of(man))
+    }
+
     /// "The distance of two matchings is the number of students whose mentors differ."
     pub fn distance(&self, other: &Matching) -> usize {
-        Man::all(self.0.len()).filter(|&man| self.woman_of(man) != other.woman_of(man)).count()
+        self.moved(other).count()
     }
 }
 

@@ -1,10 +1,13 @@
-//! Repairs of a pair of a given stable matching, the places gained, and the grade.
+//! Repairs of a pair of a given stable matching, the places gained, and the grade, where each man has a weight.
+//! Document 01's distance is the total where every weight is 1.
 
 use crate::matching::Matching;
 use crate::people::Man;
 use crate::stable::Listing;
+use crate::weights::Weights;
 
-/// "The answer is up, down or fixed, and a repair carries its distance and matching."
+/// "The answer is up, down or fixed, and a repair carries its distance and matching"; with weights the total weight of
+/// those whom it moves stands for the distance.
 #[derive(Clone, Copy, Debug, PartialEq, Eq)]
 pub enum Answer<'a> {
     Up(&'a Matching, usize),
@@ -22,10 +25,10 @@ impl Answer<'_> {
         }
     }
 
-    /// "distance, 0 for F".
-    pub fn distance(&self) -> usize {
+    /// "distance, 0 for F": "Its distance column is that total."
+    pub fn total(&self) -> usize {
         match *self {
-            Answer::Up(_, distance) | Answer::Down(_, distance) => distance,
+            Answer::Up(_, total) | Answer::Down(_, total) => total,
             Answer::Fixed => 0,
         }
     }
@@ -58,15 +61,16 @@ impl Listing {
         these.iter().copied().find(|x| these.iter().all(|any| self.lists.no_man_worse_off(x, any)))
     }
 
-    /// The answer for a man's pair: "The nearer is taken; at equal distance, up."
-    pub fn answer(&self, given: &Matching, man: Man) -> Answer<'_> {
+    /// The answer for a man's pair: "The nearer is taken; at equal distance, up"; with weights "the repair whose moved
+    /// students weigh least in total, up when equal".
+    pub fn answer(&self, given: &Matching, man: Man, weights: Weights) -> Answer<'_> {
         if self.is_fixed(given, man) {
             return Answer::Fixed;
         }
-        let up = self.repair_up(given, man).map(|x| Answer::Up(x, x.distance(given)));
-        let down = self.repair_down(given, man).map(|x| Answer::Down(x, x.distance(given)));
+        let up = self.repair_up(given, man).map(|x| Answer::Up(x, weights.of_moved(x, given)));
+        let down = self.repair_down(given, man).map(|x| Answer::Down(x, weights.of_moved(x, given)));
         match (up, down) {
-            (Some(up), Some(down)) if up.distance() <= down.distance() => up,
+            (Some(up), Some(down)) if up.total() <= down.total() => up,
             (_, Some(down)) => down,
             (Some(up), None) => up,
             (None, None) => panic!("a pair that is not fixed has a repair"),
@@ -79,16 +83,17 @@ impl Listing {
         Man::all(self.lists.n()).map(|man| place(given, man) - place(repaired, man)).collect()
     }
 
-    /// "The grade is the largest distance of an answer, less 1, over the pairs that are not fixed. It is 0 if all are
-    /// fixed."
-    pub fn grade(&self, given: &Matching) -> usize {
+    /// "Each pair's total is reduced by the asking student's own weight, and the grade is the largest of these, 0 if
+    /// all are fixed"; where every weight is 1, "the largest distance of an answer, less 1, over the pairs that are
+    /// not fixed".
+    pub fn grade(&self, given: &Matching, weights: Weights) -> usize {
         let not_fixed = Man::all(self.lists.n()).filter(|&man| !self.is_fixed(given, man));
-        not_fixed.map(|man| self.answer(given, man).distance() - 1).max().unwrap_or(0)
+        not_fixed.map(|man| self.answer(given, man, weights).total() - weights.of(man)).max().unwrap_or(0)
     }
 
-    /// The fewest students that a stable matching without the man's pair moves, or none where the pair is fixed:
-    /// demand 3 says that the answer's distance is this.
-    pub fn fewest_moved(&self, given: &Matching, man: Man) -> Option<usize> {
-        self.without_pair(given, man).iter().map(|x| x.distance(given)).min()
+    /// The least total weight of those whom a stable matching without the man's pair moves, or none where the pair is
+    /// fixed: demand 3 says that the answer's total is this.
+    pub fn least_total(&self, given: &Matching, man: Man, weights: Weights) -> Option<usize> {
+        self.without_pair(given, man).iter().map(|x| weights.of_moved(x, given)).min()
     }
 }

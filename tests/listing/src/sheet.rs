@@ -1,12 +1,13 @@
-//! The sheet of a book and a matching, as the sheet program prints it.
+//! The sheet of a book and a matching, as the sheet program prints it, and the weighted sheet.
 
 use crate::asked::Asked;
 use crate::book;
 use crate::matching::Matching;
 use crate::people::Man;
+use crate::weights::Weights;
 use std::fmt::Write;
 
-/// The book and the matching of a sheet's input: "Bytes past the book's size are the matching."
+/// The book of a sheet's input and what follows: "Bytes past the book's size are the matching."
 fn parts(input: &[u8]) -> (&[u8], &[u8]) {
     match input {
         [_, n, ..] if usize::from(*n) <= book::LARGEST => input.split_at(book::size(usize::from(*n)).min(input.len())),
@@ -14,26 +15,46 @@ fn parts(input: &[u8]) -> (&[u8], &[u8]) {
     }
 }
 
-/// The sheet: "A refusal prints `refused`, a space and its number alone."
+/// The book, the matching and the weights of a weighted sheet's input: "its weights follow the matching". The first n
+/// bytes past the book are the matching, or all where there are fewer.
+fn weighted_parts(input: &[u8]) -> (&[u8], &[u8], &[u8]) {
+    let (book, rest) = parts(input);
+    let n = book.get(1).map_or(0, |&n| usize::from(n));
+    let (matching, weights) = rest.split_at(n.min(rest.len()));
+    (book, matching, weights)
+}
+
+/// The sheet: every weight is 1.
 pub fn text(input: &[u8]) -> String {
     let (book, matching) = parts(input);
     let asked = Asked::new(book);
-    match asked.stable_matching(matching) {
-        Ok(given) => lines(&asked, &given),
+    printed(&asked, matching, &asked.ones())
+}
+
+/// The weighted sheet.
+pub fn weighted_text(input: &[u8]) -> String {
+    let (book, matching, weights) = weighted_parts(input);
+    printed(&Asked::new(book), matching, weights)
+}
+
+/// What is printed: "A refusal prints `refused`, a space and its number alone."
+fn printed(asked: &Asked, matching: &[u8], weights: &[u8]) -> String {
+    match asked.weighed(matching, weights) {
+        Ok((given, weights)) => lines(asked, &given, weights),
         Err(refusal) => format!("refused {}\n", refusal.number),
     }
 }
 
 /// The lines: "Line one: n, rotations, grade. Then student, mentor, letter (U up, D down, F fixed) and distance, 0
 /// for F. One space parts fields; a line feed ends a line."
-fn lines(asked: &Asked, given: &Matching) -> String {
+fn lines(asked: &Asked, given: &Matching, weights: Weights) -> String {
     let listing = asked.listing();
     let n = listing.lists.n();
-    let mut text = format!("{n} {} {}\n", listing.rotations().len(), listing.grade(given));
+    let mut text = format!("{n} {} {}\n", listing.rotations().len(), listing.grade(given, weights));
     for man in Man::all(n) {
-        let answer = listing.answer(given, man);
-        let (woman, letter, distance) = (given.woman_of(man), answer.letter(), answer.distance());
-        writeln!(text, "{} {} {letter} {distance}", man.0, woman.0).expect("a string takes every line");
+        let answer = listing.answer(given, man, weights);
+        let (woman, letter, total) = (given.woman_of(man), answer.letter(), answer.total());
+        writeln!(text, "{} {} {letter} {total}", man.0, woman.0).expect("a string takes every line");
     }
     text
 }

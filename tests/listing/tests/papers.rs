@@ -1,52 +1,18 @@
 //! The listing against the papers: the cases of document 01 that are checked by hand, and Tables 1 to 3 of document
 //! 000. Every expected value stands in one of them.
 
-use listing::asked::{book_size, sheet, write_book, Asked};
-use listing::matching::Matching;
+mod books;
+
+use books::{book_of, matching_5, sheet_of, table_1, MATCHING_5, TABLE_1_AND_MATCHING_5};
+use listing::asked::{book_size, write_book, Asked};
 use listing::people::{Man, Woman};
 use listing::repair::Answer;
 use listing::reply::{granted, refused, Refusal, Reply};
-
-/// Table 1 of document 000 as a book, with the matching 4 5 6 3 1 2 0 after it.
-const TABLE_1_AND_MATCHING_5: &[u8] = include_bytes!("../../../examples/table-1");
+use listing::weights::Weights;
 
 /// The preference lists of Table 1: men, then women.
 const TABLE_1: &str = "0652413 6145023 6031542 3201465 1203456 6103542 2506431 \
                        2164530 0435261 2504316 6123405 4605312 3126540 4621305";
-
-/// The matching M5 of document 000, section 3.
-const MATCHING_5: [u8; 7] = [4, 5, 6, 3, 1, 2, 0];
-
-/// The digits of a text.
-fn digits(text: &str) -> Vec<u8> {
-    text.bytes().filter(u8::is_ascii_digit).map(|digit| digit - b'0').collect()
-}
-
-/// The book of n people a side from its lists, one digit an entry.
-fn book_of(n: usize, lists: &str) -> Vec<u8> {
-    let mut out = vec![0; 156];
-    let written = write_book(n, &digits(lists), &mut out).expect("lists that break no rule");
-    out.truncate(written.value);
-    out
-}
-
-/// Table 1 as a book.
-fn table_1() -> &'static [u8] {
-    &TABLE_1_AND_MATCHING_5[..156]
-}
-
-/// The sheet of a book and a matching.
-fn sheet_of(book: &[u8], matching: &[u8]) -> String {
-    let mut out = vec![0; 1024];
-    let written = sheet(&[book, matching].concat(), &mut out).expect("1,024 bytes are always enough");
-    out.truncate(written.value);
-    String::from_utf8(out).expect("digits, letters and spaces")
-}
-
-/// The given matching M5.
-fn matching_5() -> Matching {
-    Matching::read(7, &MATCHING_5).expect("a matching")
-}
 
 /// "2 for n = 0, 12 for n = 1, 156 for n = 7, 8,706 for n = 64"; 65 is over 64.
 #[test]
@@ -185,6 +151,7 @@ const TABLE_3: [(Option<usize>, Option<usize>, usize); 7] = [
 fn tables_2_and_3_repairs_of_each_pair() {
     let asked = Asked::new(table_1());
     let (listing, given) = (asked.listing(), matching_5());
+    let ones = Weights::read(7, &[1; 7]).expect("seven weights");
     let of_set = |set: &str| {
         let marks = [0, 1, 2, 3, 4, 5].map(|k: u8| set.contains((b'0' + k) as char) as u8);
         asked.runs().matching_of(&marks)
@@ -195,9 +162,9 @@ fn tables_2_and_3_repairs_of_each_pair() {
         assert_eq!(listing.repair_down(&given, man), down.map(of_set), "{man:?}");
         assert_eq!(listing.repair_up(&given, man).map(|x| x.distance(&given)), up_distance, "{man:?}");
         assert_eq!(listing.repair_down(&given, man).map(|x| x.distance(&given)), down_distance, "{man:?}");
-        assert_eq!(listing.answer(&given, man).distance(), b + 1, "{man:?}");
-        assert_eq!(listing.fewest_moved(&given, man), Some(b + 1), "{man:?}");
-        assert_ne!(listing.answer(&given, man), Answer::Fixed);
+        assert_eq!(listing.answer(&given, man, ones).total(), b + 1, "{man:?}");
+        assert_eq!(listing.least_total(&given, man, ones), Some(b + 1), "{man:?}");
+        assert_ne!(listing.answer(&given, man, ones), Answer::Fixed);
     }
 }
 

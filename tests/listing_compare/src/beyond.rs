@@ -17,6 +17,7 @@ impl Both {
     pub fn ask_beyond(&mut self) {
         self.ask_sizes();
         self.ask_largest();
+        self.ask_largest_weights();
         for n in 0..=3 {
             for number in (0..books(n)).step_by(if n < 3 { 1 } else { STEP }) {
                 self.ask_every_rule(n, &numbered(n, number));
@@ -43,6 +44,7 @@ impl Both {
         self.ask_rooms(&book, n);
         self.ask_strings(&book, n);
         self.ask_requests(&book, n);
+        self.ask_weights(&book, n);
         self.ask_marks(&book, n);
         self.ask_damaged(&book, n);
         self.expect(bytes == before, "a book after all calls: a call has written to it");

@@ -1,5 +1,5 @@
 //! The books of the first part: every one for n up to 3 with every matching, and drawn ones for n = 4 to 6 with every
-//! stable matching and some others.
+//! stable matching and some others. Stable matchings are asked with weights too.
 
 use crate::both::Both;
 use crate::draw::{factorial, permutation, Draw};
@@ -14,19 +14,27 @@ impl Both {
     pub fn ask_small_books(&mut self) {
         for n in 0..=3 {
             for number in 0..books(n) {
-                self.ask_written(n, &numbered(n, number), |both, book| both.ask_every_matching(n, book));
+                self.ask_written(n, &numbered(n, number), |both, book| {
+                    both.ask_every_matching(n, book);
+                    both.ask_all_weights(n, book, number);
+                });
             }
         }
     }
 
     /// Asks the drawn books for n = 4 to 6.
     pub fn ask_drawn_books(&mut self) {
-        let mut draw = Draw::after(1);
+        let (mut draw, mut weights) = (Draw::after(1), Draw::after(3));
         for (n, count) in DRAWN {
             for _ in 0..count {
                 for kind in KINDS {
                     let lists = drawn(kind, n, &mut draw);
-                    self.ask_written(n, &lists, |both, book| both.ask_some_matchings(n, book, &mut draw));
+                    self.ask_written(n, &lists, |both, book| {
+                        both.ask_some_matchings(n, book, &mut draw);
+                        for stable in book.listing().stable() {
+                            both.ask_drawn_weights(n, book, stable, &mut weights);
+                        }
+                    });
                 }
             }
         }

@@ -61,6 +61,29 @@ impl Both {
         (due, other.buffer().to_vec())
     }
 
+    /// Makes a call with result buffers of these lengths for a matching and for gains on both sides; the reply that is
+    /// due.
+    fn lending_both(
+        &mut self,
+        call: Call,
+        inputs: &[&[u8]],
+        (room, gains_room): (usize, usize),
+        archive: impl Fn(&mut [u8], &mut [i8]) -> Reply,
+        listing: impl Fn(&mut [u8], &mut [i8]) -> listing::reply::Reply,
+    ) -> Reply {
+        let (mut one, mut other) = (Lent::bytes(room), Lent::bytes(room));
+        let (mut gains, mut due_gains) = (Lent::gains(gains_room), Lent::gains(gains_room));
+        let given = archive(one.buffer(), gains.buffer());
+        let due = in_c(listing(other.buffer(), due_gains.buffer()));
+        self.tally.count(call, due);
+        if given != due || one != other || gains != due_gains {
+            let a = format!("{given:?} {:?} {:?}", one.all(), gains.all());
+            let b = format!("{due:?} {:?} {:?}", other.all(), due_gains.all());
+            self.tally.differ(format!("{call:?} {inputs:?}, rooms {room} {gains_room}\n  archive {a}\n  due     {b}"));
+        }
+        due
+    }
+
     /// The check of a book.
     pub fn check_book(&mut self, book: &Asked) -> Reply {
         self.replies(Call::CheckBook, &[book.book()], archive::check_book(book.book()), book.check_book())
@@ -114,18 +137,10 @@ impl Both {
 
     /// The repair of a pair, with result buffers of these lengths.
     pub fn repair(&mut self, book: &Asked, matching: &[u8], request: &[u8], room: usize, gains_room: usize) -> Reply {
-        let (mut one, mut other) = (Lent::bytes(room), Lent::bytes(room));
-        let (mut gains, mut due_gains) = (Lent::gains(gains_room), Lent::gains(gains_room));
-        let given = archive::repair(book.book(), matching, request, one.buffer(), gains.buffer());
-        let due = in_c(book.repair(matching, request, other.buffer(), due_gains.buffer()));
-        self.tally.count(Call::Repair, due);
-        if given != due || one != other || gains != due_gains {
-            let a = format!("{given:?} {:?} {:?}", one.all(), gains.all());
-            let b = format!("{due:?} {:?} {:?}", other.all(), due_gains.all());
-            let inputs = [book.book(), matching, request];
-            self.tally.differ(format!("Repair {inputs:?}, rooms {room} {gains_room}\n  archive {a}\n  due     {b}"));
-        }
-        due
+        let inputs = [book.book(), matching, request];
+        let archive = |out: &mut [u8], gains: &mut [i8]| archive::repair(book.book(), matching, request, out, gains);
+        let listing = |out: &mut [u8], gains: &mut [i8]| book.repair(matching, request, out, gains);
+        self.lending_both(Call::Repair, &inputs, (room, gains_room), archive, listing)
     }
 
     /// The grade of a matching.
@@ -172,9 +187,38 @@ impl Both {
     pub fn sheet(&mut self, input: &[u8], room: usize) {
         let archive = |out: &mut [u8]| archive::sheet(input, out);
         let (due, out) = self.lending(Call::Sheet, &[input], room, archive, |out| asked::sheet(input, out));
-        if let Some(number) = printed_refusal(&out[..due.value]) {
-            self.tally.printed[number] += 1;
-        }
+        self.tally.count_printed(Call::Sheet, printed_refusal(&out[..due.value]));
+    }
+
+    /// The weighted repair of a pair, with result buffers of these lengths.
+    pub fn weighted_repair(
+        &mut self,
+        book: &Asked,
+        matching: &[u8],
+        weights: &[u8],
+        request: &[u8],
+        rooms: (usize, usize),
+    ) -> Reply {
+        let archive = |out: &mut [u8], gains: &mut [i8]| {
+            archive::weighted_repair(book.book(), matching, weights, request, out, gains)
+        };
+        let listing = |out: &mut [u8], gains: &mut [i8]| book.weighted_repair(matching, weights, request, out, gains);
+        self.lending_both(Call::WeightedRepair, &[book.book(), matching, weights, request], rooms, archive, listing)
+    }
+
+    /// The weighted grade of a matching: the reply that is due.
+    pub fn weighted_grade(&mut self, book: &Asked, matching: &[u8], weights: &[u8]) -> Reply {
+        let given = archive::weighted_grade(book.book(), matching, weights);
+        let due = book.weighted_grade(matching, weights);
+        self.replies(Call::WeightedGrade, &[book.book(), matching, weights], given, due)
+    }
+
+    /// The weighted sheet of a book with a matching and weights after it.
+    pub fn weighted_sheet(&mut self, input: &[u8], room: usize) {
+        let archive = |out: &mut [u8]| archive::weighted_sheet(input, out);
+        let listing = |out: &mut [u8]| asked::weighted_sheet(input, out);
+        let (due, out) = self.lending(Call::WeightedSheet, &[input], room, archive, listing);
+        self.tally.count_printed(Call::WeightedSheet, printed_refusal(&out[..due.value]));
     }
 }
 

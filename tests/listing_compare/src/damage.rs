@@ -2,6 +2,7 @@
 //! break every later rule.
 
 use crate::both::Both;
+use crate::weights::WEIGHTS;
 use listing::asked::Asked;
 
 impl Both {
@@ -63,6 +64,21 @@ impl Both {
         self.matching_to_set(&copy, &[255, 255, 255], 0);
         self.repair(&copy, matching, &[0, matching.first().copied().unwrap_or(0)], n, n);
         self.repair(&copy, &[255, 255, 255], &[], 0, 0);
+        self.ask_damaged_weighted(&copy, matching);
+    }
+
+    /// Asks a copy by every weighted call.
+    fn ask_damaged_weighted(&mut self, copy: &Asked, matching: &[u8]) {
+        let n = matching.len();
+        let (weights, own) = (&WEIGHTS[..n], matching.first().copied().unwrap_or(0));
+        self.weighted_grade(copy, matching, weights);
+        self.weighted_grade(copy, &[255, 255, 255], &[0; 9]);
+        self.weighted_repair(copy, matching, weights, &[0, own], (n, n));
+        self.weighted_repair(copy, &[255, 255, 255], &[0; 9], &[], (0, 0));
+        for room in [200, 0] {
+            self.weighted_sheet(&[copy.book(), matching, weights].concat(), room);
+        }
+        self.weighted_sheet(copy.book(), 200);
     }
 }
 

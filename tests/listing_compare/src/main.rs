@@ -17,11 +17,13 @@ mod requests;
 mod rooms;
 mod strings;
 mod tally;
+mod weighted;
+mod weights;
 mod writer;
 
 use both::Both;
 use std::process::ExitCode;
-use tally::Tally;
+use tally::{Call, Tally};
 
 /// Runs both parts and prints their counts.
 fn main() -> ExitCode {
@@ -56,6 +58,13 @@ fn print_sound(tally: &Tally) {
     println!("rotations {}", tally.rotations);
     println!("sets {}", tally.sets);
     println!("sheets {}", tally.sheets);
+    let [up, down, fixed] = tally.weighted_letters;
+    println!("weighted matchings {}", tally.weighted_matchings);
+    println!("weighted answers U {up}");
+    println!("weighted answers D {down}");
+    println!("weighted answers F {fixed}");
+    println!("weighted totals {}", tally.weighted_totals);
+    println!("weighted grades {}", tally.weighted_grades);
     println!("differences {}", tally.differences);
 }
 
@@ -71,8 +80,9 @@ fn print_beyond(tally: &Tally) {
 /// Prints how often each rule was met in both parts.
 fn print_rules(tally: &Tally) {
     println!("calls of both parts {}", tally.calls());
-    for rule in 1..=16 {
+    for rule in 1..=17 {
         println!("rule {rule} {}", tally.met(rule));
     }
-    println!("sheets that print a refusal {}", tally.printed.iter().sum::<usize>());
+    println!("sheets that print a refusal {}", tally.printed(Call::Sheet));
+    println!("weighted sheets that print a refusal {}", tally.printed(Call::WeightedSheet));
 }

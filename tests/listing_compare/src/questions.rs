@@ -2,9 +2,11 @@
 //! the repairs of all pairs, the grade, the set and the sheet. Result buffers are long enough.
 
 use crate::both::Both;
+use crate::tally::letter_place;
 use listing::asked::Asked;
 use listing::matching::Matching;
 use listing::people::Man;
+use listing::weights::Weights;
 
 /// Rooms that are enough for n up to 6: a matching, gains or a set; the list of rotations; a sheet.
 const ROOM: usize = 16;
@@ -90,9 +92,10 @@ impl Both {
     fn ask_pair(&mut self, book: &Asked, stable: &Matching, matching: &[u8], man: Man) {
         let woman = stable.woman_of(man);
         let due = self.repair(book, matching, &[man.0, woman.0], ROOM, ROOM);
-        let letter = ['U', 'D', 'F'].iter().position(|&letter| letter as usize == due.letter);
-        self.tally.letters[letter.expect("every answer has a letter")] += 1;
-        let fewest = book.listing().fewest_moved(stable, man);
+        self.tally.letters[letter_place(due.letter)] += 1;
+        let ones = book.ones();
+        let ones = Weights::read(matching.len(), &ones).expect("a weight for each man");
+        let fewest = book.listing().least_total(stable, man, ones);
         self.expect(due.value == fewest.unwrap_or(0), "the least distance of a stable matching without the pair");
         self.repair(book, matching, &[man.0, woman.0 + 1], ROOM, ROOM);
     }

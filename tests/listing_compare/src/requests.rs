@@ -1,6 +1,7 @@
-//! Rules 13, 11, 12 and 14: requests for a repair, alone and with buffers that are too short.
+//! Rules 13, 11, 12 and 14: requests for a repair, plain and weighted, alone and with buffers that are too short.
 
 use crate::both::Both;
+use crate::weights::WEIGHTS;
 use listing::asked::Asked;
 
 impl Both {
@@ -27,6 +28,7 @@ impl Both {
         let short = n.saturating_sub(1);
         for (room, gains_room) in [(n, n), (short, n), (n, short), (0, 0)] {
             self.repair(book, matching, request, room, gains_room);
+            self.weighted_repair(book, matching, &WEIGHTS[..n], request, (room, gains_room));
         }
     }
 }

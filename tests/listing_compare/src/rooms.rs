@@ -1,6 +1,7 @@
 //! Rule 14: every call that has a result buffer, with each length about the one that it needs.
 
 use crate::both::Both;
+use crate::weights::WEIGHTS;
 use listing::asked::Asked;
 use listing::people::Man;
 use listing::{rotation, sheet};
@@ -30,9 +31,13 @@ impl Both {
         self.ask_sheet_rooms(&[book.book(), &best].concat());
         self.ask_sheet_rooms(book.book());
         self.sheet(&[book.book(), &[0; 8771]].concat(), 64);
+        self.ask_weighted_sheet_rooms(&[book.book(), &best, &WEIGHTS[..n]].concat());
+        self.ask_weighted_sheet_rooms(&[book.book(), &best].concat());
+        self.weighted_sheet(&[book.book(), &best, &[0; 8835]].concat(), 64);
     }
 
-    /// Asks for the repair of every pair with both buffers a little too short, long enough or longer.
+    /// Asks for the repair of every pair, plain and weighted, with both buffers a little too short, long enough or
+    /// longer.
     fn ask_repair_rooms(&mut self, book: &Asked, matching: &[u8]) {
         let n = matching.len();
         for man in Man::all(n) {
@@ -40,16 +45,28 @@ impl Both {
             for room in [0, n - 1, n, n + 1] {
                 for gains_room in [0, n - 1, n, n + 1] {
                     self.repair(book, matching, &request, room, gains_room);
+                    self.weighted_repair(book, matching, &WEIGHTS[..n], &request, (room, gains_room));
                 }
             }
         }
     }
 
-    /// Asks for a sheet with buffers from three bytes too short to two longer, with none and with one of 1,024.
+    /// Asks for a sheet with the buffers of `sheet_rooms`.
     fn ask_sheet_rooms(&mut self, input: &[u8]) {
-        let length = sheet::text(input).len();
-        for room in [0, 1].into_iter().chain(length - 3..=length + 2).chain([1024]) {
+        for room in sheet_rooms(sheet::text(input).len()) {
             self.sheet(input, room);
         }
     }
+
+    /// Asks for a weighted sheet with them.
+    fn ask_weighted_sheet_rooms(&mut self, input: &[u8]) {
+        for room in sheet_rooms(sheet::weighted_text(input).len()) {
+            self.weighted_sheet(input, room);
+        }
+    }
+}
+
+/// Lengths of buffers for a sheet of this length: from three bytes too short to two longer, none, one and 1,024.
+fn sheet_rooms(length: usize) -> impl Iterator<Item = usize> {
+    [0, 1].into_iter().chain(length - 3..=length + 2).chain([1024])
 }

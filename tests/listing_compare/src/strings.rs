@@ -1,6 +1,7 @@
 //! Rules 8, 9 and 10: bytes that are asked about as a matching, each by every call that takes one.
 
 use crate::both::Both;
+use crate::weights::WEIGHTS;
 use listing::asked::Asked;
 
 impl Both {
@@ -48,7 +49,7 @@ impl Both {
         }
     }
 
-    /// Asks everything of bytes as a matching, also with a request and with buffers that break a later rule.
+    /// Asks everything of bytes as a matching, also with weights, a request and buffers that break a later rule.
     fn ask_string(&mut self, book: &Asked, string: &[u8], n: usize) {
         self.check_matching(book, string);
         self.grade(book, string);
@@ -60,6 +61,21 @@ impl Both {
             let input = [book.book(), string].concat();
             self.sheet(&input, 16);
             self.sheet(&input, 9);
+        }
+        self.ask_weighted_string(book, string, n);
+    }
+
+    /// Asks the weighted calls of bytes as a matching, with weights that are right and with a byte more.
+    fn ask_weighted_string(&mut self, book: &Asked, string: &[u8], n: usize) {
+        for weights in [&WEIGHTS[..n], &WEIGHTS[..n + 1]] {
+            self.weighted_grade(book, string, weights);
+            self.weighted_repair(book, string, weights, &[0, 0], (n, n));
+            self.weighted_repair(book, string, weights, &[0], (0, 0));
+            if book.stable_matching(string).is_err() {
+                let input = [book.book(), string, weights].concat();
+                self.weighted_sheet(&input, 16);
+                self.weighted_sheet(&input, 9);
+            }
         }
     }
 }

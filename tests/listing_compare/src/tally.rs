@@ -28,10 +28,22 @@ pub enum Call {
     SetToMatching,
     MatchingToSet,
     Sheet,
+    WeightedRepair,
+    WeightedGrade,
+    WeightedSheet,
+}
+
+/// How many calls there are, and the number after the last rule's.
+const COUNT: usize = 19;
+const RULES: usize = 18;
+
+/// The place of a letter among U, D and F.
+pub fn letter_place(letter: usize) -> usize {
+    [b'U', b'D', b'F'].iter().position(|&other| usize::from(other) == letter).expect("every answer has a letter")
 }
 
 /// Each call, whether it takes a book, and the other rules that it may be refused by, as the header says.
-const CALLS: [(Call, bool, &[usize]); 16] = [
+const CALLS: [(Call, bool, &[usize]); COUNT] = [
     (Call::CheckBook, true, &[]),
     (Call::BookSize, false, &[3]),
     (Call::WriteBook, false, &[3, 1, 4, 6, 7, 14]),
@@ -48,7 +60,14 @@ const CALLS: [(Call, bool, &[usize]); 16] = [
     (Call::SetToMatching, true, &[15, 16, 14]),
     (Call::MatchingToSet, true, &[8, 9, 10, 14]),
     (Call::Sheet, false, &[14]),
+    (Call::WeightedRepair, true, &[8, 9, 10, 17, 13, 11, 12, 14]),
+    (Call::WeightedGrade, true, &[8, 9, 10, 17]),
+    (Call::WeightedSheet, false, &[14]),
 ];
+
+/// The refusals that each call prints as a sheet; rule 4 does not occur, since bytes past the book are no part of it.
+const PRINTS: [(Call, &[usize]); 2] =
+    [(Call::Sheet, &[1, 2, 3, 5, 6, 7, 8, 9, 10]), (Call::WeightedSheet, &[1, 2, 3, 5, 6, 7, 8, 9, 10, 17])];
 
 /// The counts.
 #[derive(Default)]
@@ -62,10 +81,15 @@ pub struct Tally {
     pub sheets: usize,
     /// Answers with U, D and F.
     pub letters: [usize; 3],
+    /// Stable matchings with weights, the answers with U, D and F, and the sums of their totals and of the grades.
+    pub weighted_matchings: usize,
+    pub weighted_letters: [usize; 3],
+    pub weighted_totals: usize,
+    pub weighted_grades: usize,
     /// For each call how often each rule was met; at 0 how often none was.
-    met: [[usize; 17]; 16],
-    /// How often a sheet printed the refusal by each rule.
-    pub printed: [usize; 17],
+    met: [[usize; RULES]; COUNT],
+    /// For each call how often it printed the refusal by each rule as a sheet.
+    printed: [[usize; RULES]; COUNT],
     pub differences: usize,
 }
 
@@ -73,6 +97,18 @@ impl Tally {
     /// Counts a call by the reply that is due.
     pub fn count(&mut self, call: Call, due: Reply) {
         self.met[call as usize][due.number] += 1;
+    }
+
+    /// Counts the refusal that a call has printed as a sheet, if it has.
+    pub fn count_printed(&mut self, call: Call, refusal: Option<usize>) {
+        if let Some(number) = refusal {
+            self.printed[call as usize][number] += 1;
+        }
+    }
+
+    /// How often a call has printed a refusal as a sheet.
+    pub fn printed(&self, call: Call) -> usize {
+        self.printed[call as usize].iter().sum()
     }
 
     /// How many calls were made.
@@ -87,7 +123,7 @@ impl Tally {
 
     /// How many calls were refused.
     pub fn refusals(&self) -> usize {
-        (1..=16).map(|rule| self.met(rule)).sum()
+        (1..RULES).map(|rule| self.met(rule)).sum()
     }
 
     /// Adds the calls of another tally.
@@ -95,13 +131,13 @@ impl Tally {
         for (met, more) in self.met.iter_mut().flatten().zip(other.met.iter().flatten()) {
             *met += more;
         }
-        for (printed, more) in self.printed.iter_mut().zip(other.printed) {
+        for (printed, more) in self.printed.iter_mut().flatten().zip(other.printed.iter().flatten()) {
             *printed += more;
         }
     }
 
-    /// The calls that never gave a result or were never refused by a rule that they have, and the refusals that no
-    /// sheet printed; rule 4 does not occur in a sheet.
+    /// The calls that never gave a result or were never refused by a rule that they have, and the refusals that they
+    /// never printed as a sheet.
     pub fn missing(&self) -> Vec<String> {
         let mut missing = Vec::new();
         for (call, takes_book, others) in CALLS {
@@ -112,9 +148,11 @@ impl Tally {
                 }
             }
         }
-        for rule in [1, 2, 3, 5, 6, 7, 8, 9, 10] {
-            if self.printed[rule] == 0 {
-                missing.push(format!("a sheet that prints the refusal by rule {rule}"));
+        for (call, rules) in PRINTS {
+            for &rule in rules {
+                if self.printed[call as usize][rule] == 0 {
+                    missing.push(format!("{call:?} that prints the refusal by rule {rule}"));
+                }
             }
         }
         missing
@@ -139,7 +177,7 @@ mod tests {
 
     /// A tally in which every call has met each of its rules, and every refusal that a sheet can print was printed.
     fn complete() -> Tally {
-        Tally { met: [[1; 17]; 16], printed: [1; 17], ..Tally::default() }
+        Tally { met: [[1; RULES]; COUNT], printed: [[1; RULES]; COUNT], ..Tally::default() }
     }
 
     /// What was never met is missed, and nothing else.
@@ -149,9 +187,9 @@ mod tests {
         let mut tally = complete();
         tally.met[Call::Repair as usize][12] = 0;
         assert_eq!(tally.missing(), ["Repair by rule 12"]);
-        tally.printed[9] = 0;
-        assert_eq!(tally.missing().len(), 2);
-        for rule in 1..=16 {
+        tally.printed[Call::WeightedSheet as usize][17] = 0;
+        assert_eq!(tally.missing()[1..], ["WeightedSheet that prints the refusal by rule 17"]);
+        for rule in 1..RULES {
             let mut tally = complete();
             tally.met.iter_mut().for_each(|rules| rules[rule] = 0);
             assert!(!tally.missing().is_empty(), "rule {rule}");

@@ -3,6 +3,7 @@
 #![allow(dead_code)] // each test program uses a part
 
 pub mod book;
+pub mod known;
 pub mod repairs;
 pub mod rotations;
 
@@ -80,6 +81,11 @@ pub fn husband(matching: &Matching, woman: usize) -> usize {
 /// The number of men whose women differ.
 pub fn distance(one: &Matching, other: &Matching) -> usize {
     one.iter().zip(other).filter(|(a, b)| a != b).count()
+}
+
+/// The total weight of the men whose women differ.
+pub fn weight_moved(one: &Matching, other: &Matching, weights: &[u8]) -> usize {
+    (0..weights.len()).filter(|&i| one[i] != other[i]).map(|i| weights[i] as usize).sum()
 }
 
 /// All orders of 0 to n - 1.

@@ -1,6 +1,7 @@
-//! Repairs, fixed pairs and the grade in the words of document 01, over the list of all stable matchings.
+//! Repairs, fixed pairs and the grade in the words of document 01, over the list of all stable matchings. Each man has
+//! a weight (W-201); document 01 itself counts men, so there each weighs 1.
 
-use super::{distance, Market, Matching};
+use super::{weight_moved, Market, Matching};
 
 /// The answer for a pair: U or D with the repaired matching, or nothing where the pair is fixed.
 pub type Answer = Option<(u8, Matching)>;
@@ -31,35 +32,37 @@ impl Market {
         stable.iter().filter(|m| m[man] != given[man] && all_fit(m)).cloned().collect()
     }
 
-    /// The nearer of the two, at equal distance up. That none exists when the pair is fixed, and that no stable
-    /// matching without the pair is nearer (demand 3), is tested on the way.
-    pub fn answer(&self, stable: &[Matching], given: &Matching, man: usize) -> Answer {
+    /// The one that moves the smaller total weight, at equal totals up. That none exists when the pair is fixed, and
+    /// that no stable matching without the pair moves less (demand 3), is tested on the way.
+    pub fn answer(&self, stable: &[Matching], given: &Matching, weights: &[u8], man: usize) -> Answer {
+        let moved = |m: &Matching| weight_moved(m, given, weights);
         let up = self.repair_up(stable, given, man).map(|m| (b'U', m));
         let down = self.repair_down(stable, given, man).map(|m| (b'D', m));
-        let answer = [up, down].into_iter().flatten().min_by_key(|(_, m)| distance(m, given));
-        let nearest = stable.iter().filter(|m| m[man] != given[man]).map(|m| distance(m, given)).min();
-        assert_eq!(answer.as_ref().map(|(_, m)| distance(m, given)), nearest);
+        let answer = [up, down].into_iter().flatten().min_by_key(|(_, m)| moved(m));
+        let least = stable.iter().filter(|m| m[man] != given[man]).map(moved).min();
+        assert_eq!(answer.as_ref().map(|(_, m)| moved(m)), least);
         answer
     }
 
     /// The grade, as demand 3 has it: the least number such that, for each pair that is not fixed, some stable
-    /// matching without it moves at most that many men besides the asking one.
-    pub fn grade(&self, stable: &[Matching], given: &Matching) -> usize {
+    /// matching without it moves men of at most that total weight besides the asking one.
+    pub fn grade(&self, stable: &[Matching], given: &Matching, weights: &[u8]) -> usize {
         let enough = |b: usize| {
             (0..self.n).all(|man| {
+                let others = |m: &Matching| weight_moved(m, given, weights) - weights[man] as usize;
                 let mut without = stable.iter().filter(|m| m[man] != given[man]).peekable();
-                without.peek().is_none() || without.any(|m| distance(m, given) - 1 <= b)
+                without.peek().is_none() || without.any(|m| others(m) <= b)
             })
         };
         (0..).find(|&b| enough(b)).unwrap()
     }
 
     /// The sheet of a stable matching.
-    pub fn sheet(&self, stable: &[Matching], rotations: usize, given: &Matching) -> String {
-        let mut sheet = format!("{} {} {}\n", self.n, rotations, self.grade(stable, given));
+    pub fn sheet(&self, stable: &[Matching], rotations: usize, given: &Matching, weights: &[u8]) -> String {
+        let mut sheet = format!("{} {} {}\n", self.n, rotations, self.grade(stable, given, weights));
         for man in 0..self.n {
-            let (letter, moved) = match self.answer(stable, given, man) {
-                Some((letter, repaired)) => (letter as char, distance(&repaired, given)),
+            let (letter, moved) = match self.answer(stable, given, weights, man) {
+                Some((letter, repaired)) => (letter as char, weight_moved(&repaired, given, weights)),
                 None => ('F', 0),
             };
             sheet += &format!("{} {} {} {}\n", man, given[man], letter, moved);

@@ -1,0 +1,80 @@
+//! The calls on repairs of include/placement.h: the repair of a pair and the grade, with weights and without.
+//!
+//! "After the book, …: 8, 9, 10, then 13, 11, 12, then 14"; and "17 weights, not n bytes, after 10".
+
+use crate::asked::Asked;
+use crate::matching::Matching;
+use crate::people::{Man, Woman};
+use crate::repair::Answer;
+use crate::reply::{granted, refused, Granted, Refusal, Reply};
+use crate::weights::Weights;
+
+impl Asked<'_> {
+    /// Weights of 1 for all men of the book; none where it is refused.
+    pub fn ones(&self) -> Vec<u8> {
+        vec![1; self.checked.unwrap_or(0)]
+    }
+
+    /// The stable matching and the weights that the bytes are: the book's rules, then 8, 9, 10, then 17.
+    pub fn weighed<'w>(&self, matching: &[u8], weights: &'w [u8]) -> Result<(Matching, Weights<'w>), Refusal> {
+        let given = self.stable_matching(matching)?;
+        Ok((given, Weights::read(self.checked?, weights)?))
+    }
+
+    /// The repair of one pair.
+    pub fn repair(&self, matching: &[u8], request: &[u8], out: &mut [u8], gains: &mut [i8]) -> Reply {
+        self.weighted_repair(matching, &self.ones(), request, out, gains)
+    }
+
+    /// The repair of one pair with weights: "Fixed writes neither matching nor gains, yet both buffers must hold n
+    /// entries or 14 is given."
+    pub fn weighted_repair(
+        &self,
+        matching: &[u8],
+        weights: &[u8],
+        request: &[u8],
+        out: &mut [u8],
+        gains: &mut [i8],
+    ) -> Reply {
+        let (given, weights) = self.weighed(matching, weights)?;
+        let man = self.requested(&given, request)?;
+        let n = self.checked?;
+        if out.len() < n || gains.len() < n {
+            return refused(14, 0);
+        }
+        let answer = self.listing().answer(&given, man, weights);
+        if let Answer::Up(repaired, _) | Answer::Down(repaired, _) = answer {
+            out[..n].copy_from_slice(&repaired.bytes());
+            gains[..n].copy_from_slice(&self.listing().gains(&given, repaired));
+        }
+        Ok(Granted { letter: Some(answer.letter()), value: answer.total(), place: 0 })
+    }
+
+    /// The asking man of a request: 13, "request is not exactly two bytes, student then mentor"; 11; 12, "the two are
+    /// not together".
+    fn requested(&self, given: &Matching, request: &[u8]) -> Result<Man, Refusal> {
+        let n = self.checked?;
+        let &[student, mentor] = request else {
+            return refused(13, 0);
+        };
+        let (man, woman) = (Man(student), Woman(mentor));
+        if man.index() >= n || woman.index() >= n {
+            return refused(11, 0);
+        }
+        if !given.holds(man, woman) {
+            return refused(12, 0);
+        }
+        Ok(man)
+    }
+
+    /// The grade of a matching.
+    pub fn grade(&self, matching: &[u8]) -> Reply {
+        self.weighted_grade(matching, &self.ones())
+    }
+
+    /// The weighted grade of a matching.
+    pub fn weighted_grade(&self, matching: &[u8], weights: &[u8]) -> Reply {
+        let (given, weights) = self.weighed(matching, weights)?;
+        granted(self.listing().grade(&given, weights))
+    }
+}
