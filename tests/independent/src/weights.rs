@@ -2,20 +2,19 @@
 
 use crate::reply::{rule, Checked};
 
-/// For each bit of a weight the set of the men whose weight has it.
-pub struct Weights([u64; 8]);
+/// For each bit of a weight, up to the highest that some weight has, the set of the men whose weight has it.
+pub struct Weights(Vec<u64>);
 
 impl Weights {
     /// The weights of n men. Rule 17.
     pub fn read(n: usize, bytes: &[u8]) -> Checked<Weights> {
         rule(bytes.len() != n, 17, 0)?;
-        let mut having = [0; 8];
-        for (man, &weight) in bytes.iter().enumerate() {
-            for (bit, men) in having.iter_mut().enumerate() {
-                *men |= ((weight >> bit & 1) as u64) << man;
-            }
-        }
-        Ok(Weights(having))
+        let bits = 8 - bytes.iter().fold(0, |all, weight| all | weight).leading_zeros();
+        let having = |bit| {
+            let men = bytes.iter().enumerate().map(|(man, weight)| ((weight >> bit & 1) as u64) << man);
+            men.fold(0, |set, man| set | man)
+        };
+        Ok(Weights((0..bits).map(having).collect()))
     }
 
     /// The total weight of these men.
