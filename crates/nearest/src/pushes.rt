@@ -12,7 +12,7 @@ use tables::list_at;
 use tables::wide;
 ghost use mathlib.Core.Path.{_≡_};
 ghost use Prim.Native.Nat.{_≤_, _<_};
-ghost use lib.ListN.{length};
+ghost use lib.ListN.{length, take};
 ghost use Rattle.laws.specs.Moment.{vec₀};
 ghost use Rattle.laws.specs.Values.{vec};
 ghost use Rattle.tables.specs.Lists.{Tables, tables, market, Sound};
@@ -28,8 +28,8 @@ pub struct Vectors {
     pub receivers: [u16; Instance::LARGEST],
 }
 
-// Pushes proposer s on by one place, from copies of the two vectors. It gives up where the repair is no nearer than
-// `stop`.
+// Pushes proposer s on by one place, from copies of the two vectors; `was` has the proposers' places as they are before.
+// It gives up where the repair is no nearer than `stop`.
 pub fn pushed<'a>(
     n: usize,
     plists: &'a [u16],
@@ -37,13 +37,14 @@ pub fn pushed<'a>(
     ranks: &'a [u16],
     p: [u16; Instance::LARGEST],
     t: [u16; Instance::LARGEST],
+    was: &[u16],
     weights: &[usize],
     s: usize,
     stop: usize,
 ) -> Vectors
     ghost { Tables }
     requires { λ K. ⌜ tables n n plists rlists ranks ≡ K ⌝ }
-    requires { λ K. ⌜ Sound K × (n ≤ length p) ⌝ }
+    requires { λ K. ⌜ Sound K × (n ≤ length p) × (now was ≡ take n p) ⌝ }
     requires { λ K. ⌜ Pushable (market K) (vec p) (vec t) s ⌝ }
     requires { λ _. ⌜ Weighed n (now weights) × (stop ≤ noRepair) ⌝ }
     ensures { λ K r. ⌜ Tries (market K) (vec₀ weights) (vec p) s stop (vec (r .proposers)) (vec (r .receivers)) (r .far) ⌝ }
@@ -58,7 +59,7 @@ pub fn pushed<'a>(
         ranks,
         &mut proposers[..n],
         &mut receivers[..n],
-        &p[..n],
+        was,
         weights,
         s,
         stop,
@@ -92,9 +93,31 @@ pub fn nearest<'a>(
 {
     let s = book::wide(m.0);
     let w = list_at(mlists, n, s, wide(men[s]));
-    let up = pushed(n, wlists, mlists, mranks, women, men, carried, w, NO_REPAIR);
+    let up = pushed(
+        n,
+        wlists,
+        mlists,
+        mranks,
+        women,
+        men,
+        &women[..n],
+        carried,
+        w,
+        NO_REPAIR,
+    );
     let above = up.far;
-    let down = pushed(n, mlists, wlists, wranks, men, women, weights, s, above);
+    let down = pushed(
+        n,
+        mlists,
+        wlists,
+        wranks,
+        men,
+        women,
+        &men[..n],
+        weights,
+        s,
+        above,
+    );
     let below = down.far;
     if below < above {
         let places = down.proposers;

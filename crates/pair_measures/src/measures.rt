@@ -55,7 +55,18 @@ fn measure_up<'a>(
     while s < n {
         if wide(up[s]) == s {
             let w = list_at(mlists, n, s, wide(men[s]));
-            let found = pushed(n, wlists, mlists, mranks, women, men, carried, w, NO_REPAIR);
+            let found = pushed(
+                n,
+                wlists,
+                mlists,
+                mranks,
+                women,
+                men,
+                &women[..n],
+                carried,
+                w,
+                NO_REPAIR,
+            );
             above[s] = found.far;
         }
         s += 1;
@@ -106,7 +117,18 @@ fn measure_down<'a>(
     let mut s = 0;
     while s < n {
         if wide(down[s]) == s {
-            let found = pushed(n, mlists, wlists, wranks, men, women, weights, s, bound[s]);
+            let found = pushed(
+                n,
+                mlists,
+                wlists,
+                wranks,
+                men,
+                women,
+                &men[..n],
+                weights,
+                s,
+                bound[s],
+            );
             below[s] = found.far;
         }
         s += 1;

@@ -1,8 +1,9 @@
 -- `nearest` meets its contract: s is the number of man m and w that of his woman, the two pushes say how near the
 -- repairs up and down are, and each return gives the answer of its case. Assumes nothing.
 use Prim.Native.Nat.{_<_}
-use mathlib.Core.Path.{_≡_, refl}
+use mathlib.Core.Path.{_≡_, refl, sym}
 use lib.ListN.{length}
+use lib.Seq.{length-take-le}
 use Rattle.format.specs.Format.{largest}
 use native.Mathlib.Omega.{arith}
 use borrow.Author.Needs.{needs}
@@ -42,17 +43,26 @@ list-at-requires c κs = let m = man c in place-index (start m .pre .0 .0) (numb
 
 pushed-requires : tie.Need-pushed-requires
 pushed-requires c κs =
-    let m = man (place c) in
+    let w : tie.After-list-at = search in
+    let m = man (place w) in
     let s = start m in
     let G = s .pre .0 .0 in
-    ((G .by-women, omega (arith, G .few, s .good)), (women-pushable G (numbered m) (place c .wide2 .ensures .0) (c .list-at .ensures .0), (s .pre .1 .women, omega arith)))
+    ((G .by-women, omega (arith, G .few, s .good), refl), (women-pushable G (numbered m) (place w .wide2 .ensures .0) (w .list-at .ensures .0), (s .pre .1 .women, omega arith)))
 
 pushed-requires-2 : tie.Need-pushed-requires-2
 pushed-requires-2 c κs =
-    let m = man (place (woman c)) in
+    let u : tie.After-pushed = search in
+    let m = man (place (woman u)) in
     let s = start m in
     let G = s .pre .0 .0 in
-    ((G .by-men, omega (arith, G .few, s .good)), (men-pushable G (numbered m), (s .pre .1 .men, c .pushed .ensures .most)))
+    ((G .by-men, omega (arith, G .few, s .good), refl), (men-pushable G (numbered m), (s .pre .1 .men, u .pushed .ensures .most)))
+
+-- the fronts of the two arrays are lent
+share-women : tie.Need-array-share-prefix-women
+share-women c = let s = start (man (place c)) in omega (arith, s .pre .0 .0 .few, s .good)
+
+share-men : tie.Need-array-share-prefix-men
+share-men c = let s = start (man (place (woman c))) in omega (arith, s .pre .0 .0 .few, s .good)
 
 returns : tie.Need-returns
 returns c =
@@ -90,7 +100,11 @@ nearest-spec =
     (λ c. omega (arith, numbered c, start c .pre .0 .0 .few))
     (λ c κs. search needs)
     list-at-requires
+    share-women
+    (λ c. sym (length-take-le _ _ (share-women (c .before))))
     pushed-requires
+    share-men
+    (λ c. sym (length-take-le _ _ (share-men (c .before))))
     pushed-requires-2
     returns
     returns-2

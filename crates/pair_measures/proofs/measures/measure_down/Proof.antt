@@ -1,10 +1,11 @@
 -- `measure_down` meets its contract. The loop's invariant: those below s who answer for a group are measured up to
 -- their bounds. The measure is the number of men left. Assumes nothing.
 use Prim.Native.Nat.{ℕ, _-_, _≤_}
-use mathlib.Core.Path.{_≡_, refl, _∙_}
+use mathlib.Core.Path.{_≡_, refl, sym, _∙_}
 use mathlib.Core.Logic.{⊎-elim}
 use native.Mathlib.Omega.{arith}
 use lib.ListN.{length, length-set}
+use lib.Seq.{length-take-le}
 use Rattle.laws.specs.Values.{vec}
 use Rattle.tables.specs.Lists.{marketOf}
 use Rattle.stable_theory.specs.Repairs.Repair.{IsDown}
@@ -16,20 +17,24 @@ use Rattle.pair_measures.proofs.measures.measure_down.Statement.{statem
 use Rattle.pair_measures.proofs.measures.measure_down.Tie as tie
 
 abbrev Inv-loop : tie.InvT-loop
-Inv-loop n mlists mranks wlists wranks men women weights down bound below₀ s₀ below s =
+Inv-loop n mlists mranks wlists wranks women weights down bound below₀ men s₀ below s =
     Measured (marketOf n n mlists wlists) (vec weights) (vec men) s (IsDown (marketOf n n mlists wlists) (vec men)) (vec down) (vec bound) (vec below)
     × (length below ≡ length below₀)
     × (s ≤ n)
 
 abbrev μ-loop : tie.MeasureT-loop
-μ-loop n mlists mranks wlists wranks men women weights down bound below₀ s₀ below s = n - s
+μ-loop n mlists mranks wlists wranks women weights down bound below₀ men s₀ below s = n - s
+
+-- the front of the array is lent
+share-men : tie.Need-array-share-prefix-men Inv-loop μ-loop
+share-men c = let s : tie.Start Inv-loop μ-loop = search in omega (arith, s .pre .0 .0 .few, s .good)
 
 pushed-requires : tie.Need-pushed-requires Inv-loop μ-loop
 pushed-requires c κs =
     let s : tie.Start Inv-loop μ-loop = search in
     let t : tie.In-loop Inv-loop μ-loop = search in
     let G = s .pre .0 .0 in
-    ((G .by-men, omega (arith, G .few, s .good)), (men-pushable G (t .loop-test .taken), (s .pre .0 .1, s .pre .1 .1 _ (t .loop-test .taken))))
+    ((G .by-men, omega (arith, G .few, s .good), refl), (men-pushable G (t .loop-test .taken), (s .pre .0 .1, s .pre .1 .1 _ (t .loop-test .taken))))
 
 loop-again : tie.Need-loop-again Inv-loop μ-loop
 loop-again c =
@@ -40,8 +45,8 @@ loop-again c =
     let I = l .loop .inv in
     ⊎-elim
     (λ w.
-    let T = w .2 .ensures in
-    rw (w .3) (measured-on (l .loop .below) (I .0) (omega (arith, s .pre .1 .0 .2, I .1, t .loop-test .taken)) (distant-down T) (T .most), simp length-set (I .1), omega arith))
+    let T = w .3 .ensures in
+    rw (w .4) (measured-on (l .loop .below) (I .0) (omega (arith, s .pre .1 .0 .2, I .1, t .loop-test .taken)) (distant-down T) (T .most), simp length-set (I .1), omega arith))
     (λ w. rw (w .1) (measured-skip (I .0) (λ e. w .0 .left (o .wide .ensures .0 ∙ e)), I .1, omega arith))
     (c .if1 .came)
 
@@ -55,6 +60,8 @@ measure-down-spec =
     (λ c. omega arith)
     (λ c. let s : tie.Start Inv-loop μ-loop = search in omega (arith, s .pre .1 .0))
     (λ c κs. tt)
+    share-men
+    (λ c. sym (length-take-le _ _ (share-men (c .before))))
     (λ c. omega arith)
     (λ c. let s : tie.Start Inv-loop μ-loop = search in omega (arith, s .pre .1 .0))
     pushed-requires

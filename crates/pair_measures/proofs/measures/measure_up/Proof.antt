@@ -5,6 +5,7 @@ use mathlib.Core.Path.{_≡_, refl, sym, _∙_}
 use mathlib.Core.Logic.{⊎-elim}
 use native.Mathlib.Omega.{arith}
 use lib.ListN.{length, length-set}
+use lib.Seq.{length-take-le}
 use Rattle.laws.specs.Values.{vec}
 use Rattle.tables.specs.Lists.{marketOf}
 use Rattle.stable_theory.specs.Repairs.Repair.{IsUp}
@@ -16,19 +17,23 @@ use Rattle.pair_measures.proofs.measures.measure_up.Statement.{statemen
 use Rattle.pair_measures.proofs.measures.measure_up.Tie as tie
 
 abbrev Inv-loop : tie.InvT-loop
-Inv-loop n mlists mranks wlists wranks women weights carried up above₀ men s₀ above s =
+Inv-loop n mlists mranks wlists wranks weights carried up above₀ men women s₀ above s =
     Measured (marketOf n n mlists wlists) (vec weights) (vec men) s (IsUp (marketOf n n mlists wlists) (vec men)) (vec up) (λ s. noRepair) (vec above)
     × (length above ≡ length above₀)
     × (s ≤ n)
 
 abbrev μ-loop : tie.MeasureT-loop
-μ-loop n mlists mranks wlists wranks women weights carried up above₀ men s₀ above s = n - s
+μ-loop n mlists mranks wlists wranks weights carried up above₀ men women s₀ above s = n - s
 
 list-at-requires : tie.Need-list-at-requires Inv-loop μ-loop
 list-at-requires c κs =
     let s : tie.Start Inv-loop μ-loop = search in
     let t : tie.In-loop Inv-loop μ-loop = search in
     place-index (s .pre .0 .0) (t .loop-test .taken) (c .wide2 .ensures .0)
+
+-- the front of the array is lent
+share-women : tie.Need-array-share-prefix-women Inv-loop μ-loop
+share-women c = let s : tie.Start Inv-loop μ-loop = search in omega (arith, s .pre .0 .0 .few, s .good)
 
 pushed-requires : tie.Need-pushed-requires Inv-loop μ-loop
 pushed-requires c κs =
@@ -37,7 +42,7 @@ pushed-requires c κs =
     let p : tie.After-wide2 Inv-loop μ-loop = search in
     let l : tie.After-list-at Inv-loop μ-loop = search in
     let G = s .pre .0 .0 in
-    ((G .by-women, omega (arith, G .few, s .good)), (women-pushable G (t .loop-test .taken) (p .wide2 .ensures .0) (l .list-at .ensures .0), (s .pre .0 .1 .women, omega arith)))
+    ((G .by-women, omega (arith, G .few, s .good), refl), (women-pushable G (t .loop-test .taken) (p .wide2 .ensures .0) (l .list-at .ensures .0), (s .pre .0 .1 .women, omega arith)))
 
 loop-again : tie.Need-loop-again Inv-loop μ-loop
 loop-again c =
@@ -48,9 +53,9 @@ loop-again c =
     let I = l .loop .inv in
     ⊎-elim
     (λ w.
-    let T = w .3 .ensures in
+    let T = w .4 .ensures in
     let X = up-distant (s .pre .0 .0) (t .loop-test .taken) (w .1 .ensures .0) (w .2 .ensures .0) (s .pre .0 .1) T in
-    rw (w .4) (measured-on (l .loop .above) (I .0) (omega (arith, s .pre .1 .1, I .1, t .loop-test .taken)) X (T .most), simp length-set (I .1), omega arith))
+    rw (w .5) (measured-on (l .loop .above) (I .0) (omega (arith, s .pre .1 .1, I .1, t .loop-test .taken)) X (T .most), simp length-set (I .1), omega arith))
     (λ w. rw (w .1) (measured-skip (I .0) (λ e. w .0 .left (o .wide .ensures .0 ∙ e)), I .1, omega arith))
     (c .if1 .came)
 
@@ -68,6 +73,8 @@ measure-up-spec =
     (λ c. let s : tie.Start Inv-loop μ-loop = search in omega (arith, s .pre .0 .0 .few, s .good))
     (λ c κs. tt)
     list-at-requires
+    share-women
+    (λ c. sym (length-take-le _ _ (share-women (c .before))))
     pushed-requires
     (λ c. omega arith)
     (λ c. let s : tie.Start Inv-loop μ-loop = search in let l : tie.At-loop Inv-loop μ-loop = search in let t : tie.In-loop Inv-loop μ-loop = search in omega (arith, s .pre .1 .1, l .loop .inv .1, t .loop-test .taken))
