@@ -1,11 +1,12 @@
 #!/usr/bin/env python3
 """Turns ranked lists as text into a book (document 01), on standard output.
 
-    tools/book.py [--matching "4 5 6 3 1 2 0"] [FILE] > BOOK
+    tools/book.py [--matching "4 5 6 3 1 2 0"] [--weights "1 1 9 1 1 3 1"] [FILE] > BOOK
 
 FILE, or standard input, has one list a line, best first: n lines of students' lists and then n of mentors' lists,
 numbers separated by blanks. Blank lines are passed over, and so is what follows a #.
---matching appends a matching, the mentor of each student, as the sheet program takes it. It is not checked here.
+--matching appends a matching, the mentor of each student, as the sheet program takes it; --weights appends the weight
+of each student after it, as the weighted sheet program does. Neither is checked here.
 """
 import argparse
 import sys
@@ -59,6 +60,7 @@ def main():
     args = argparse.ArgumentParser(description=__doc__, formatter_class=argparse.RawDescriptionHelpFormatter)
     args.add_argument("file", nargs="?", metavar="FILE")
     args.add_argument("--matching", default="", metavar="NUMBERS")
+    args.add_argument("--weights", default="", metavar="NUMBERS")
     args = args.parse_args()
     name = args.file or "standard input"
     try:
@@ -67,7 +69,8 @@ def main():
         fail(f"{name}: {e}")
     lists = read_lists(name, lines)
     matching = numbers("--matching", args.matching)
-    sys.stdout.buffer.write(book(check(name, lists), lists) + bytes(matching))
+    weights = numbers("--weights", args.weights)
+    sys.stdout.buffer.write(book(check(name, lists), lists) + bytes(matching) + bytes(weights))
 
 
 if __name__ == "__main__":

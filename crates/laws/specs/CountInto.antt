@@ -6,7 +6,7 @@ use mathlib.Core.Bool.{Bool, true, not}
 use native.Mathlib.Omega.{arith}
 use lib.Dec.{eqb}
 use borrow.Author.Tests.{eq-eqb, ne-eqb}
-use Rattle.laws.specs.Choice.{pick, both, same, tested}
+use Rattle.laws.specs.Choice.{pick, both, tested}
 use Rattle.laws.specs.Sum.{sum}
 use Rattle.laws.specs.SumLaws.{sum-grown-below}
 

@@ -28,8 +28,8 @@ pub struct Vectors {
     pub receivers: [u16; Instance::LARGEST],
 }
 
-// Pushes proposer s on by one place, from copies of the two vectors; `was` has the proposers' places as they are before.
-// It gives up where the repair is no nearer than `stop`.
+// Pushes proposer s on by one place, from copies of the two vectors; `was` has the proposers' places as they are
+// before. It gives up where the repair is no nearer than `stop`.
 pub fn pushed<'a>(
     n: usize,
     plists: &'a [u16],

@@ -26,8 +26,8 @@ pub record AnswerAt (I : Market) (c p : ℕ → ℕ) (letters distances : List �
   pub letter : vec letters s ≡ letterByte (answerOf I c p s)
   pub distance : vec distances s ≡ farOf I c p (answerOf I c p s)
 
--- All pairs of the matching with these places, over a record, where man i weighs c i: their letters and distances, the largest cost, and how
--- many rotations there are
+-- All pairs of the matching with these places, over a record, where man i weighs c i: their letters and distances, the
+-- largest cost, and how many rotations there are
 pub record PairsAnswered (R : Record) (c : ℕ → ℕ) (p : Places) (letters distances : List ℕ) (r : Summary) : Type 0 where
   pub letters-long : R .n ≤ length letters
   pub distances-long : R .n ≤ length distances

@@ -39,10 +39,11 @@ fn weight_of(weights: &[usize], c: usize) -> usize
 }
 
 // Pushes proposer s, who is placed, on by one place from a stable vector p with its other side t, and adds the weights
-// of the proposers who leave their places, which `was` has. The chain ends where it comes to the receiver whom s leaves:
-// then the answer is the total, p is the least settled vector at or after, it is stable, and t is its other side. The
-// chain is given up, with the answer `stop`, where the total comes to `stop`, or where a proposer comes off the end of
-// his list or to a receiver who is free, since then no stable vector is at or after; p and t then hold anything.
+// of the proposers who leave their places, which `was` has. The chain ends where it comes to the receiver whom s
+// leaves: then the answer is the total, p is the least settled vector at or after, it is stable, and t is its other
+// side. The chain is given up, with the answer `stop`, where the total comes to `stop`, or where a proposer comes off
+// the end of his list or to a receiver who is free, since then no stable vector is at or after; p and t then hold
+// anything.
 pub fn push_weight<'a>(
     a: usize,
     b: usize,
@@ -98,8 +99,9 @@ pub fn push_weight<'a>(
     stop
 }
 
-// The same without a bound, whatever the weights. Where the answer is true, p is the least settled vector at or after, it is stable, and t is
-// its other side; where it is false, no stable vector is at or after, and p and t hold anything.
+// The same without a bound, whatever the weights. Where the answer is true, p is the least settled vector at or after,
+// it is stable, and t is its other side; where it is false, no stable vector is at or after, and p and t hold
+// anything.
 pub fn push<'a>(
     a: usize,
     b: usize,

@@ -1,5 +1,6 @@
--- The words of demand 3: b is a book, m and k are matchings of it, `womanOf m i` is the mentor of student i in m, c i is
--- the weight of student i, and s is the asking student. A matching is stable where its check refuses nothing. Assumes nothing.
+-- The words of demand 3: b is a book, m and k are matchings of it, `womanOf m i` is the mentor of student i in m, c i
+-- is the weight of student i, and s is the asking student. A matching is stable where its check refuses nothing.
+-- Assumes nothing.
 use Prim.Native.Nat.{ℕ, _-_, _≤_, _<_}
 use mathlib.Core.Path.{_≡_}
 use mathlib.Core.List.{List}

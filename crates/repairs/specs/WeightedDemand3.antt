@@ -1,6 +1,6 @@
--- Demand 3 with weights, whole: the total weight of the students moved in place of their number, over every well formed
--- book, every stable matching, every pair and every table of n weights. k has the weights, byte i that of student i. The
--- words are those of Promise.antt, where no choice is left (Demand3.one-repair-taken). Assumes nothing.
+-- Demand 3 with weights, whole: the total weight of the students moved in place of their number, over every well
+-- formed book, every stable matching, every pair and every table of n weights. k has the weights, byte i that of
+-- student i. The words are those of Promise.antt, where no choice is left (Demand3.one-repair-taken). Assumes nothing.
 use Prim.Native.Nat.{ℕ, _≤_, _<_}
 use mathlib.Core.Path.{_≡_}
 use mathlib.Core.List.{List}
@@ -74,8 +74,8 @@ grade-sentence b m k stable all =
     grade-largest b (weightOf k) m stable (weighed-fine b m k stable all) (λ s o g. weightedReply b m k (pairOf m s) o g)
     (λ s u o g h l. reply-given b (weightOf k) m s stable u (weighted-fine b m k s stable all u h l))
 
--- With every weight 1 the weighted calls are the plain ones: on every input the replies are the same, refusals included,
--- and so are the buffers
+-- With every weight 1 the weighted calls are the plain ones: on every input the replies are the same, refusals
+-- included, and so are the buffers
 module _ (b m : List ℕ) where
   abbrev ones : List ℕ
   ones = replicate (people b) 1

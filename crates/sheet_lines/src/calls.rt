@@ -21,8 +21,8 @@ ghost use Rattle.sheets.specs.Sheet.{sheetOf, weightedSheetOf};
 ghost use Rattle.sheets.specs.Reply.{replyWith, bufferWith, sheetReply, sheetBuffer, weightedSheetReply, weightedSheetBuffer};
 ghost use Rattle.sheet_text.specs.Put.{Put};
 
-// Writes the sheet of a book and a matching to the front of `out` and says how many bytes it has, or refuses by 14 where
-// `out` is too short. A refusal leaves `out` as it was, and a success leaves what is past the sheet.
+// Writes the sheet of a book and a matching to the front of `out` and says how many bytes it has, or refuses by 14
+// where `out` is too short. A refusal leaves `out` as it was, and a success leaves what is past the sheet.
 pub fn write_sheet(input: &[u8], out: &mut [u8]) -> Counted
     ensures reply { λ r. ⌜ countOutcome r ≡ sheetReply (now₀ input) (length (now₀ out)) ⌝ }
     ensures bytes { λ _. ⌜ now₁ out ≡ sheetBuffer (now₀ input) (now₀ out) ⌝ }

@@ -16,8 +16,8 @@ digits = digitsOf largest
 abbrev pub totalDigits : ℕ
 totalDigits = digitsOf (largest * 255)
 
--- Line one: three numbers, of which that of the rotations has at most twice the digits of n and the grade at most e, and
--- a byte after each
+-- Line one: three numbers, of which that of the rotations has at most twice the digits of n and the grade at most e,
+-- and a byte after each
 abbrev pub topMost : ℕ → ℕ
 topMost e = 3 * digits + e + 3
 

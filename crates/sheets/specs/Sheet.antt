@@ -34,8 +34,8 @@ letterOf (U v) = 85
 letterOf (D v) = 68
 letterOf F = 70
 
--- The distance of an answer for the matching m of the book b, 0 for F: the total weight of the students moved, c i being
--- that of student i
+-- The distance of an answer for the matching m of the book b, 0 for F: the total weight of the students moved, c i
+-- being that of student i
 abbrev pub distanceOf : List ℕ → (ℕ → ℕ) → List ℕ → Answer → ℕ
 distanceOf b c m (U v) = movedWeight (people b) c m (matchingOf b v)
 distanceOf b c m (D v) = movedWeight (people b) c m (matchingOf b v)

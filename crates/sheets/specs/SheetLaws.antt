@@ -1,7 +1,7 @@
 -- What a sheet says: each line is demand 3's answer for its pair, and the grade is demand 3's grade. The words of the
 -- promises are those of crate repairs, over all stable matchings of the book. Assumes nothing.
 use Prim.Native.Nat.{ℕ, _≤_, _<_}
-use mathlib.Core.Path.{_≡_}
+use mathlib.Core.Path.{_≡_, refl, _∙_, ap}
 use mathlib.Core.List.{List, [], _++_}
 use mathlib.Core.Logic.{_↔_}
 use lib.ListN.{take}
@@ -35,9 +35,9 @@ pub data Says : ℕ → ℕ → RepairAnswer → Type 0 where
   says-down : (d : ℕ) → Says 68 d (down d)
   says-fixed : Says 70 0 fixed
 
--- The letter and the distance of a line of the matching m of the book b, for the pair of student s, c i being the weight
--- of student i: they say 'fixed' exactly where every stable matching holds the pair, and otherwise the repair that
--- document 01 takes, and every stable matching without the pair moves students that weigh at least as much
+-- The letter and the distance of a line of the matching m of the book b, for the pair of student s, c i being the
+-- weight of student i: they say 'fixed' exactly where every stable matching holds the pair, and otherwise the repair
+-- that document 01 takes, and every stable matching without the pair moves students that weigh at least as much
 pub record RightLine (b : List ℕ) (c : ℕ → ℕ) (m : List ℕ) (s letter distance : ℕ) : Type 0 where
   pub answer : RepairAnswer
   pub says : Says letter distance answer
@@ -77,16 +77,24 @@ line-right {b} {m} S c {s} u =
       taken = λ n. (take (people b) (filled fine (entriesFor b a) (matchingFor b a) []), reply-takes S u c [] A n .0, reply-takes S u c [] A n .1);
     }
 
+-- the lines of the answers are those of these letters and distances
+answers-lines :
+    (b : List ℕ) (c : ℕ → ℕ) (m : List ℕ) →
+    answers b c m
+    ≡ topLine (people b) (rotationCount b) (gradeOf b c m)
+    ++ pairLines (womanOf m) (λ s. letterOf (answerFor b c m s)) (λ s. distanceOf b c m (answerFor b c m s)) (people b)
+unfolding answers
+answers-lines b c m = refl
+
 -- and so is the sheet, where nothing is refused
 right : (b : List ℕ) (c : ℕ → ℕ) (m : List ℕ) → checkMatching b m ≡ fine → {v : Verdict} → v ≡ fine → RightSheet b c m (sheetAfter v b c m)
-unfolding answers
 right b c m f e =
     let S = fine-stable b m .0 f in
     record {
       grade = gradeOf b c m;
       letter = λ s. letterOf (answerFor b c m s);
       distance = λ s. distanceOf b c m (answerFor b c m s);
-      text = rw e;
+      text = ap (λ (v : Verdict). sheetAfter v b c m) e ∙ answers-lines b c m;
       numbered = rotations-canonical (market-proper (S .matching .formed));
       lines = λ u. line-right S c u;
       covers = grade-covers S c;

@@ -1,6 +1,6 @@
 -- A push on one side gives the repair on that side, or says how near it is not; and the nearer of the two repairs is
 -- the answer. Assumes nothing.
-use Prim.Native.Nat.{ℕ, _+_, _≤_, _<_}
+use Prim.Native.Nat.{ℕ, _≤_, _<_}
 use mathlib.Core.Path.{_≡_, refl, sym, _∙_}
 use native.Mathlib.Omega.{arith}
 use Rattle.laws.specs.Choice.{split}

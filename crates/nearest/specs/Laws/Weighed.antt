@@ -13,7 +13,7 @@ use Rattle.format.specs.Record.{Record}
 use Rattle.stable_theory.specs.Stable.Holding.{held-at}
 use Rattle.stable_theory.specs.Stable.Alike.{holds-alike}
 use Rattle.matchings.specs.declared.places.Judged.{Judged}
-use Rattle.matchings.specs.BookMarket.{market, market-proper}
+use Rattle.matchings.specs.BookMarket.{market-proper}
 use Rattle.matchings.specs.Matching.{checkMatching}
 use Rattle.matchings.specs.Laws.StableCheck.{fine-stable}
 use Rattle.stability.specs.Laws.Judged.{BookJudged}

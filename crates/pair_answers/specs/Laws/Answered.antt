@@ -12,11 +12,11 @@ use Rattle.laws.specs.Values.{vec}
 use Rattle.format.specs.Record.{Record}
 use Rattle.stable_theory.specs.Stable.Market.{Market}
 use Rattle.stable_theory.specs.Repairs.Repair.{IsDown, IsUp, weight}
-use Rattle.stable_theory.specs.Repairs.Answer.{Answer, U, D, F, answerOf, Answers, SameAnswer, same-up, same-down, same-fixed}
+use Rattle.stable_theory.specs.Repairs.Answer.{Answer, SameAnswer, same-up, same-down, same-fixed}
 use Rattle.matchings.specs.declared.places.Places.{Places}
 use Rattle.instances.specs.Usable.{marketIn}
 use Rattle.nearest.specs.Tried.{noRepair, Distant}
-use Rattle.nearest.specs.Nearest.{GivenIn, BothWeighed, farOf, costs}
+use Rattle.nearest.specs.Nearest.{GivenIn, BothWeighed, costs}
 use Rattle.nearest.specs.Laws.Tried.{answers-down, answers-up, answers-fixed}
 use Rattle.nearest.specs.Laws.Grade.{far-same}
 use Rattle.nearest.specs.Laws.Nearest.{right, weight-below}

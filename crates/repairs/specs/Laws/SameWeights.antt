@@ -1,17 +1,15 @@
 -- Replies depend on the verdict, and where nothing is refused on the weights of the n students alone. So with every
 -- weight 1 the weighted replies are the plain ones, and weights past the largest n do not matter. Assumes nothing.
-use Prim.Native.Nat.{ℕ, _+_, _≤_, _<_}
-use mathlib.Core.Path.{_≡_, refl, sym, _∙_, ap}
+use Prim.Native.Nat.{ℕ, _<_}
+use mathlib.Core.Path.{_≡_, refl, _∙_, ap}
 use mathlib.Core.List.{List}
 use mathlib.Core.Bool.{not}
-use native.Mathlib.Omega.{arith}
-use lib.ListN.{length, take, getD}
 use lib.Dec.{eqb}
 use lib.IntN.{ℤ}
 use Rattle.laws.specs.Choice.{pick}
 use Rattle.laws.specs.SumLaws.{sum-same}
-use Rattle.format.specs.Verdict.{Verdict, fine, refused, andThen}
-use Rattle.format.specs.Outcome.{Outcome, gives, after, filled}
+use Rattle.format.specs.Verdict.{Verdict, fine, refused}
+use Rattle.format.specs.Outcome.{gives, after, filled}
 use Rattle.format.specs.Format.{people}
 use Rattle.stable_theory.specs.Stable.Holding.{Same}
 use Rattle.stable_theory.specs.Repairs.Answer.{Answer, U, D, F}

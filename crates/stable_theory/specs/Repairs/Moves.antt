@@ -14,7 +14,7 @@ use Rattle.stable_theory.specs.Stable.Market.{Market, Proper}
 use Rattle.stable_theory.specs.Stable.Vector.{Holds, Stable}
 use Rattle.stable_theory.specs.Stable.Holding.{Same}
 use Rattle.stable_theory.specs.Stable.Lattice.{stable-min, stable-max}
-use Rattle.stable_theory.specs.Repairs.Repair.{Parts, Fixed, IsDown, IsUp, down, up, moved, weight, distance}
+use Rattle.stable_theory.specs.Repairs.Repair.{Parts, Fixed, IsDown, IsUp, down, up, moved, weight}
 use Rattle.stable_theory.specs.Repairs.RepairLaws.{down-is, down-exists, up-is, up-exists}
 
 -- Whoever r moves, k moves
@@ -41,11 +41,6 @@ weight-le I c p r k f =
 pub weight-same : (I : Market) (c p r k : ℕ → ℕ) → Same I r k → weight I c p r ≡ weight I c p k
 weight-same I c p r k e =
     omega (arith, weight-le I c p r k (λ i u ne f. ne (omega (arith, e i u))), weight-le I c p k r (λ i u ne f. ne (omega (arith, e i u))))
-
--- the distance is the weight of those moved where every weight is 1
-pub distance-weight : (I : Market) (p k : ℕ → ℕ) → distance I p k ≡ weight I (λ i. 1) p k
-unfolding distance weight
-distance-weight I p k = refl
 
 -- k is a stable vector without the pair
 module _ {I : Market} (M : Proper I) {p : ℕ → ℕ} {s w : ℕ} (P : Stable I p) (h : Holds I p s w) {k : ℕ → ℕ} (K : Parts I p s k) where

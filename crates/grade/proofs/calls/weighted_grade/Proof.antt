@@ -1,6 +1,7 @@
--- `weighted_grade` meets its contract: the weights that are read are those given, as far as they matter. Assumes nothing.
+-- `weighted_grade` meets its contract: the weights that are read are those given, as far as they matter. Assumes
+-- nothing.
 use Prim.Native.Nat.{ℕ}
-use mathlib.Core.Path.{_≡_, _∙_, ap}
+use mathlib.Core.Path.{_∙_, ap}
 use mathlib.Core.List.{List}
 use denote.Ref.{now}
 use borrow.Author.Needs.{needs}

@@ -1,5 +1,4 @@
 -- `pushed` meets its contract: the kernel pushes on the fronts of the two copies. Assumes nothing.
-use mathlib.Core.Path.{refl}
 use native.Mathlib.Omega.{arith}
 use lib.ListN.{length-take}
 use borrow.Author.Needs.{needs}

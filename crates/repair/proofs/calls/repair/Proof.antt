@@ -1,6 +1,7 @@
--- `repair` meets its contract: with a weight of 1 for each student the weighted reply is the plain one. Assumes nothing.
+-- `repair` meets its contract: with a weight of 1 for each student the weighted reply is the plain one. Assumes
+-- nothing.
 use Prim.Native.Nat.{_≤_}
-use mathlib.Core.Path.{_≡_, sym, _∙_}
+use mathlib.Core.Path.{sym, _∙_}
 use native.Mathlib.Omega.{arith}
 use denote.Ref.{now}
 use lib.ListN.{take}

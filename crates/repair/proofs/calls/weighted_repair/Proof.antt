@@ -1,5 +1,6 @@
--- `weighted_repair` meets its contract: the weights that are read are those given, as far as they matter. Assumes nothing.
-use mathlib.Core.Path.{_≡_, _∙_, ap}
+-- `weighted_repair` meets its contract: the weights that are read are those given, as far as they matter. Assumes
+-- nothing.
+use mathlib.Core.Path.{_∙_, ap}
 use mathlib.Core.List.{List}
 use Prim.Native.Nat.{ℕ}
 use denote.Ref.{now}

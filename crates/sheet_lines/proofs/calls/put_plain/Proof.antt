@@ -1,14 +1,14 @@
 -- `put_plain` meets its contract: with a weight of 1 for each student the weighted sheet of the book and of the rest is
 -- the plain one. Assumes nothing.
 use Prim.Native.Nat.{_≤_}
-use mathlib.Core.Path.{_≡_, sym, _∙_, ap}
+use mathlib.Core.Path.{sym, _∙_, ap}
 use native.Mathlib.Omega.{arith}
 use denote.Ref.{now}
 use lib.ListN.{length, take}
 use lib.Seq.{length-take-le}
 use borrow.Author.Needs.{needs}
 use Rattle.format.specs.Format.{largest}
-use Rattle.sheets.specs.Even.{even-sheet}
+use Rattle.sheets.specs.WeightsOfOne.{even-sheet}
 use Rattle.sheet_text.specs.Laws.Put.{put-as}
 use Rattle.sheet_answers.specs.Laws.Short.{even-short, parts-short}
 use Rattle.weights.specs.Laws.Ones.{ones, ones-length, ones-given, ones-even, ones-most}

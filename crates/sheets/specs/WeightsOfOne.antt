@@ -8,7 +8,7 @@ use lib.Seq.{take-at, drop-append-seam, take-append-le, drop-append-le, getD-tak
 use Rattle.format.specs.Verdict.{Verdict, fine, refused}
 use Rattle.format.specs.Format.{largest, people, size}
 use Rattle.stable_theory.specs.Repairs.Answer.{Answer, U, D, F}
-use Rattle.matchings.specs.Matching.{checkMatching, womanOf}
+use Rattle.matchings.specs.Matching.{checkMatching}
 use Rattle.matchings.specs.Extreme.{matchingOf}
 use Rattle.rotations.specs.RotationList.{rotationCount}
 use Rattle.repairs.specs.Repair.{answerFor}
