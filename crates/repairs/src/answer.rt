@@ -1,7 +1,7 @@
 // What the functions on repairs answer.
 use format::Refusal;
 
-// A repair: how many men it moves.
+// A repair: the total weight of the men whom it moves, which is their number where each weighs 1.
 pub struct Repair {
     pub distance: usize,
 }

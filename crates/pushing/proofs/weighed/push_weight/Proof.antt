@@ -28,7 +28,7 @@ abbrev μ-loop : tie.MeasureT-loop
 μ-loop a b plists rlists ranks p₀ t₀ was weights s stop goal total₀ cur₀ rest₀ p t total cur rest = left (marketOf a b plists rlists) (vec (set p cur (rest .next)))
 
 -- from each place to the one before it that the proof names: the function's entry, the receiver whom s leaves, the
--- loop's head, what `cur` finds there, the receiver takes him, he is counted
+-- loop's head, what `cur` finds there, the receiver takes him, his weight is added
 abbrev begin : tie.At-loop Inv-loop μ-loop → tie.Start Inv-loop μ-loop
 begin c = search
 
