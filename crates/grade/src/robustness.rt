@@ -1,6 +1,6 @@
 // The grade of a matching with weights.
 //
-// `weights` has the weight of each man, and `carried` that of each woman's man.
+// `weights` has the weight of each man, and `wweights` that of each woman's man.
 use book::is_small;
 use format::Checked;
 use format::Instance;
@@ -20,8 +20,13 @@ ghost use Rattle.weights.specs.Weights.{WeightsGiven};
 
 // The grade of a matching of a book: the largest total of an answer, less the asking student's own weight, over the
 // pairs that are not fixed; or the first rule that is broken and where.
-pub(crate) fn grade_by(book: &[u8], matching: &[u8], weights: &[usize], carried: &[usize]) -> Graded
-    requires { ⌜ WeightsGiven (now matching) (now weights) (now carried) ⌝ }
+pub(crate) fn grade_by(
+    book: &[u8],
+    matching: &[u8],
+    weights: &[usize],
+    wweights: &[usize],
+) -> Graded
+    requires { ⌜ WeightsGiven (now matching) (now weights) (now wweights) ⌝ }
     ensures { λ r. ⌜ gradeOutcome r ≡ weightedGrade (now₀ book) (now₀ matching) (now₀ weights) ⌝ }
 {
     if is_small(book) {
@@ -37,7 +42,7 @@ pub(crate) fn grade_by(book: &[u8], matching: &[u8], weights: &[usize], carried:
             &mut wranks,
             matching,
             weights,
-            carried,
+            wweights,
         );
     }
     let mut mlists = [Instance::VACANT; Instance::LISTS];
@@ -52,7 +57,7 @@ pub(crate) fn grade_by(book: &[u8], matching: &[u8], weights: &[usize], carried:
         &mut wranks,
         matching,
         weights,
-        carried,
+        wweights,
     )
 }
 
@@ -65,11 +70,11 @@ fn grade_with(
     wranks: &mut [u16],
     matching: &[u8],
     weights: &[usize],
-    carried: &[usize],
+    wweights: &[usize],
 ) -> Graded
     requires { ⌜ LongTables (now book) (now mlists) (now mranks) ⌝ }
     requires { ⌜ LongTables (now book) (now wlists) (now wranks) ⌝ }
-    requires { ⌜ WeightsGiven (now matching) (now weights) (now carried) ⌝ }
+    requires { ⌜ WeightsGiven (now matching) (now weights) (now wweights) ⌝ }
     ensures { λ r. ⌜ gradeOutcome r ≡ weightedGrade (now₀ book) (now₀ matching) (now₀ weights) ⌝ }
 {
     let instance = load(book, mlists, mranks, wlists, wranks);
@@ -84,7 +89,7 @@ fn grade_with(
         wranks,
         matching,
         weights,
-        carried,
+        wweights,
     )
 }
 
@@ -98,12 +103,12 @@ fn grade_in<'a>(
     wranks: &'a [u16],
     matching: &[u8],
     weights: &[usize],
-    carried: &[usize],
+    wweights: &[usize],
 ) -> Graded
     ghost { Record }
     requires { λ R. ⌜ lent n mlists mranks wlists wranks ≡ R ⌝ }
     requires { λ R. ⌜ FromBook answer R ⌝ }
-    requires { λ _. ⌜ WeightsGiven (now matching) (now weights) (now carried) ⌝ }
+    requires { λ _. ⌜ WeightsGiven (now matching) (now weights) (now wweights) ⌝ }
     ensures { λ R r. ⌜ EachBook answer R (λ b. gradeOutcome r ≡ weightedGrade b (now₀ matching) (now₀ weights)) ⌝ }
 {
     let judged = judge(answer, n, mlists, mranks, wlists, wranks, matching);
@@ -123,7 +128,7 @@ fn grade_in<'a>(
         wranks,
         places,
         weights,
-        carried,
+        wweights,
         &mut letters[..],
         &mut distances[..],
     );

@@ -11,7 +11,7 @@ use Rattle.format.specs.Record.{Record}
 use Rattle.stable_theory.specs.Stable.Market.{Market}
 use Rattle.stable_theory.specs.Stable.Vector.{Stable, Mirror}
 use Rattle.stable_theory.specs.Repairs.Repair.{weight}
-use Rattle.stable_theory.specs.Repairs.BothSides.{Carried}
+use Rattle.stable_theory.specs.Repairs.BothSides.{PartnerWeights}
 use Rattle.pushing.specs.Push.{Weighed}
 use Rattle.stable_theory.specs.Repairs.Answer.{Answer, U, D, F, answerOf}
 use Rattle.matchings.specs.declared.places.Places.{Places}
@@ -34,10 +34,10 @@ abbrev pub GivenIn : Record → Places → Type 0
 GivenIn R p = Given R (p .men) (p .women)
 
 -- A weight for each man, and for each woman that of the man who holds her under p
-pub record BothWeighed (R : Record) (p : ℕ → ℕ) (weights carried : List ℕ) : Type 0 where
+pub record BothWeighed (R : Record) (p : ℕ → ℕ) (weights wweights : List ℕ) : Type 0 where
   pub men : Weighed (R .n) weights
-  pub women : Weighed (R .n) carried
-  pub both : Carried (marketIn R) p (vec weights) (vec carried)
+  pub women : Weighed (R .n) wweights
+  pub both : PartnerWeights (marketIn R) p (vec weights) (vec wweights)
 
 -- The letter of an answer, as the code has it
 abbrev pub letterOf : Answer → Letter

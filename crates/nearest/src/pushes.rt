@@ -1,7 +1,7 @@
 // The nearest repair of a pair, over lent tables and the two vectors of a stable matching.
 //
 // `men` has the rank of each man's woman on his list and `women` the rank of each woman's man on hers; entries from n
-// on hold anything. `weights` has the weight of each man, and `carried` that of each woman's man.
+// on hold anything. `weights` has the weight of each man, and `wweights` that of each woman's man.
 use crate::answer::Letter;
 use crate::answer::NO_REPAIR;
 use crate::answer::Nearest;
@@ -82,13 +82,13 @@ pub fn nearest<'a>(
     men: [u16; Instance::LARGEST],
     women: [u16; Instance::LARGEST],
     weights: &[usize],
-    carried: &[usize],
+    wweights: &[usize],
     m: Man,
 ) -> Nearest
     ghost { Record }
     requires { λ R. ⌜ lent n mlists mranks wlists wranks ≡ R ⌝ }
     requires { λ R. ⌜ Given R men women × (m .0 < n) ⌝ }
-    requires { λ R. ⌜ BothWeighed R (vec men) (now weights) (now carried) ⌝ }
+    requires { λ R. ⌜ BothWeighed R (vec men) (now weights) (now wweights) ⌝ }
     ensures { λ R r. ⌜ ShowsFor R (vec₀ weights) (vec men) (m .0) r ⌝ }
 {
     let s = book::wide(m.0);
@@ -101,7 +101,7 @@ pub fn nearest<'a>(
         women,
         men,
         &women[..n],
-        carried,
+        wweights,
         w,
         NO_REPAIR,
     );

@@ -22,7 +22,7 @@ pub struct Summary {
 }
 
 // The letter and the distance of the answer for each pair, to the fronts of the two slices, the grade and the number of
-// rotations, where `weights` has the weight of each man and `carried` that of each woman's man. One push up and one
+// rotations, where `weights` has the weight of each man and `wweights` that of each woman's man. One push up and one
 // down serve all men whose pairs have the same repair.
 pub fn answer_pairs<'a>(
     n: usize,
@@ -32,13 +32,13 @@ pub fn answer_pairs<'a>(
     wranks: &'a [u16],
     places: Places,
     weights: &[usize],
-    carried: &[usize],
+    wweights: &[usize],
     letters: &mut [u8],
     distances: &mut [usize],
 ) -> Summary
     ghost { Record }
     requires { λ R. ⌜ lent n mlists mranks wlists wranks ≡ R ⌝ }
-    requires { λ R. ⌜ Usable R × GivenIn R places × BothWeighed R (vec (places .men)) (now weights) (now carried) ⌝ }
+    requires { λ R. ⌜ Usable R × GivenIn R places × BothWeighed R (vec (places .men)) (now weights) (now wweights) ⌝ }
     requires { λ _. ⌜ (n ≤ length (now letters)) × (n ≤ length (now distances)) ⌝ }
     ensures { λ R r. ⌜ PairsAnswered R (vec₀ weights) places (now₁ letters) (now₁ distances) r ⌝ }
 {
@@ -58,7 +58,7 @@ pub fn answer_pairs<'a>(
         men,
         women,
         weights,
-        carried,
+        wweights,
         &down,
         &up,
         &mut above[..],

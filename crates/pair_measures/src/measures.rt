@@ -1,7 +1,7 @@
 // How far the repairs up and down are, measured once for each group of men whose pairs have the same repair.
 //
 // `up` and `down` have who answers for each man, and n where there is no repair. `weights` has the weight of each man,
-// and `carried` that of each woman's man.
+// and `wweights` that of each woman's man.
 use format::Instance;
 use nearest::NO_REPAIR;
 use nearest::pushed;
@@ -40,13 +40,13 @@ fn measure_up<'a>(
     men: [u16; Instance::LARGEST],
     women: [u16; Instance::LARGEST],
     weights: &[usize],
-    carried: &[usize],
+    wweights: &[usize],
     up: &[u16],
     above: &mut [usize],
 )
     ghost { Record }
     requires { λ R. ⌜ lent n mlists mranks wlists wranks ≡ R ⌝ }
-    requires { λ R. ⌜ Given R men women × BothWeighed R (vec men) (now weights) (now carried) ⌝ }
+    requires { λ R. ⌜ Given R men women × BothWeighed R (vec men) (now weights) (now wweights) ⌝ }
     requires { λ _. ⌜ (n ≤ length (now up)) × (n ≤ length (now above)) ⌝ }
     ensures { λ R _. ⌜ Measured (marketIn R) (vec₀ weights) (vec men) n (IsUp (marketIn R) (vec men)) (vec₀ up) (λ s. noRepair)
         (vec₁ above) ⌝ }
@@ -63,7 +63,7 @@ fn measure_up<'a>(
                 women,
                 men,
                 &women[..n],
-                carried,
+                wweights,
                 w,
                 NO_REPAIR,
             );
@@ -146,7 +146,7 @@ pub fn measure<'a>(
     men: [u16; Instance::LARGEST],
     women: [u16; Instance::LARGEST],
     weights: &[usize],
-    carried: &[usize],
+    wweights: &[usize],
     down: &[u16],
     up: &[u16],
     above: &mut [usize],
@@ -154,7 +154,7 @@ pub fn measure<'a>(
 )
     ghost { Record }
     requires { λ R. ⌜ lent n mlists mranks wlists wranks ≡ R ⌝ }
-    requires { λ R. ⌜ Given R men women × BothWeighed R (vec men) (now weights) (now carried) ⌝ }
+    requires { λ R. ⌜ Given R men women × BothWeighed R (vec men) (now weights) (now wweights) ⌝ }
     requires { λ R. ⌜ Grouped n (IsUp (marketIn R) (vec men)) (vec (now up)) ⌝ }
     requires { λ _. ⌜ Measurable n (now down) (now up) (now above) (now below) ⌝ }
     ensures { λ R _. ⌜ BothMeasured (marketIn R) (vec₀ weights) (vec men) n (vec₀ down) (vec₀ up) (vec₁ above) (vec₁ below) ⌝ }
@@ -169,7 +169,7 @@ pub fn measure<'a>(
         men,
         women,
         weights,
-        carried,
+        wweights,
         up,
         above,
     );

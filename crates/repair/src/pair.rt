@@ -1,6 +1,6 @@
 // Repair of a pair with weights: the request's rules, the nearest repair, and the two result buffers.
 //
-// `weights` has the weight of each man, and `carried` that of each woman's man.
+// `weights` has the weight of each man, and `wweights` that of each woman's man.
 use book::is_small;
 use book::pair_in;
 use book::refuse;
@@ -34,12 +34,12 @@ pub(crate) fn repair_by(
     book: &[u8],
     matching: &[u8],
     weights: &[usize],
-    carried: &[usize],
+    wweights: &[usize],
     request: &[u8],
     out: &mut [u8],
     gains: &mut [i8],
 ) -> Answer
-    requires { ⌜ WeightsGiven (now matching) (now weights) (now carried) ⌝ }
+    requires { ⌜ WeightsGiven (now matching) (now weights) (now wweights) ⌝ }
     ensures reply { λ r. ⌜ repairOutcome r ≡ weightedReply (now₀ book) (now₀ matching) (now₀ weights) (now₀ request) (now₀ out)
         (now₀ gains) ⌝ }
     ensures bytes { λ _. ⌜ now₁ out ≡ weightedMatching (now₀ book) (now₀ matching) (now₀ weights) (now₀ request) (now₀ out)
@@ -60,7 +60,7 @@ pub(crate) fn repair_by(
             &mut wranks,
             matching,
             weights,
-            carried,
+            wweights,
             request,
             out,
             gains,
@@ -78,7 +78,7 @@ pub(crate) fn repair_by(
         &mut wranks,
         matching,
         weights,
-        carried,
+        wweights,
         request,
         out,
         gains,
@@ -94,14 +94,14 @@ fn repair_with(
     wranks: &mut [u16],
     matching: &[u8],
     weights: &[usize],
-    carried: &[usize],
+    wweights: &[usize],
     request: &[u8],
     out: &mut [u8],
     gains: &mut [i8],
 ) -> Answer
     requires { ⌜ LongTables (now book) (now mlists) (now mranks) ⌝ }
     requires { ⌜ LongTables (now book) (now wlists) (now wranks) ⌝ }
-    requires { ⌜ WeightsGiven (now matching) (now weights) (now carried) ⌝ }
+    requires { ⌜ WeightsGiven (now matching) (now weights) (now wweights) ⌝ }
     ensures reply { λ r. ⌜ repairOutcome r ≡ weightedReply (now₀ book) (now₀ matching) (now₀ weights) (now₀ request) (now₀ out)
         (now₀ gains) ⌝ }
     ensures bytes { λ _. ⌜ now₁ out ≡ weightedMatching (now₀ book) (now₀ matching) (now₀ weights) (now₀ request) (now₀ out)
@@ -121,7 +121,7 @@ fn repair_with(
         wranks,
         matching,
         weights,
-        carried,
+        wweights,
         request,
         out,
         gains,
@@ -139,7 +139,7 @@ fn repair_in<'a>(
     wranks: &'a [u16],
     matching: &[u8],
     weights: &[usize],
-    carried: &[usize],
+    wweights: &[usize],
     request: &[u8],
     out: &mut [u8],
     gains: &mut [i8],
@@ -147,7 +147,7 @@ fn repair_in<'a>(
     ghost { Record }
     requires { λ R. ⌜ lent n mlists mranks wlists wranks ≡ R ⌝ }
     requires { λ R. ⌜ FromBook answer R ⌝ }
-    requires { λ _. ⌜ WeightsGiven (now matching) (now weights) (now carried) ⌝ }
+    requires { λ _. ⌜ WeightsGiven (now matching) (now weights) (now wweights) ⌝ }
     ensures { λ R r. ⌜ Repairs answer R (now₀ matching) (now₀ weights) (now₀ request) (now₀ out) (now₀ gains) r
         (now₁ out) (now₁ gains) ⌝ }
 {
@@ -180,7 +180,7 @@ fn repair_in<'a>(
         men,
         women,
         weights,
-        carried,
+        wweights,
         asking,
     );
     repair_answer::answer(n, mlists, men, found, out, gains)

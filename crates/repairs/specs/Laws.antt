@@ -9,4 +9,4 @@ pub mod OneRepair
 pub mod GradeBytes
 pub mod GradeSentence
 pub mod SameWeights
-pub mod Even
+pub mod UnitWeights

@@ -20,7 +20,7 @@ use Rattle.repairs.specs.Laws.Demand3.{fixed-iff, takes, gains-are, answ
 use Rattle.repairs.specs.Laws.OneRepair.{only-one}
 use Rattle.repairs.specs.Laws.GradeBytes.{grade-is}
 use Rattle.repairs.specs.Laws.GradeSentence.{grade-largest}
-use Rattle.repairs.specs.Laws.Even.{Even, even-ones, even-reply, even-matching, even-gains, even-grade}
+use Rattle.repairs.specs.Laws.UnitWeights.{UnitWeights, unit-ones, unit-reply, unit-matching, unit-gains, unit-grade}
 
 -- A book that is well formed with a matching that is stable in it, a byte for each student, a pair asked for alone, and
 -- lent buffers that are long enough
@@ -86,8 +86,8 @@ module _ (b m : List ℕ) where
       × (weightedMatching b m ones q out gains ≡ repairMatching b m q out gains)
       × (weightedGains b m ones q out gains ≡ repairGains b m q out gains)
   ones-reply q out gains =
-      let E : checkMatching b m ≡ fine → Even (people b) ones = λ f. even-ones (people b) in
-      (even-reply b m ones E q out gains, even-matching b m ones E q out gains, even-gains b m ones E q out gains)
+      let E : checkMatching b m ≡ fine → UnitWeights (people b) ones = λ f. unit-ones (people b) in
+      (unit-reply b m ones E q out gains, unit-matching b m ones E q out gains, unit-gains b m ones E q out gains)
 
   pub ones-grade : weightedGrade b m ones ≡ gradeReply b m
-  ones-grade = even-grade b m ones (λ f. even-ones (people b))
+  ones-grade = unit-grade b m ones (λ f. unit-ones (people b))

@@ -1,6 +1,6 @@
 -- The reply of every call: 0 and the result, or the number of the broken rule with its places. Assumes nothing.
 use Prim.Native.Nat.{ℕ}
-use mathlib.Core.Path.{_≡_}
+use mathlib.Core.Path.{_≡_, _∙_, ap}
 use mathlib.Core.Bool.{Bool}
 use Rattle.laws.specs.Choice.{pick}
 use Rattle.format.specs.Verdict.{Verdict, refused}
@@ -49,3 +49,9 @@ replyFor v place value = replyBy (granted place) (after v value)
 -- a refusal's reply does not depend on the value
 pub refused-reply : {v : Verdict} {number place second : ℕ} → v ≡ refused number place second → (p x q y : ℕ) → replyFor v p x ≡ replyFor v q y
 refused-reply e p x q y = rw e
+
+-- so the reply for a check that refuses is that for a place and a value that nobody asks for
+pub refused-given :
+    {r : Reply} {v w : Verdict} {number place second : ℕ} → r ≡ replyFor v 0 0 → v ≡ refused number place second → v ≡ w →
+    (p x : ℕ) → r ≡ replyFor w p x
+refused-given e f g p x = e ∙ refused-reply f 0 0 p x ∙ ap (λ (u : Verdict). replyFor u p x) g

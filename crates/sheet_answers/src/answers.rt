@@ -24,13 +24,13 @@ pub fn put_answers<'a>(
     wranks: &'a [u16],
     places: Places,
     weights: &[usize],
-    carried: &[usize],
+    wweights: &[usize],
     matching: &[u8],
     text: &mut [u8],
 ) -> usize
     ghost { Record }
     requires { λ R. ⌜ lent n mlists mranks wlists wranks ≡ R ⌝ }
-    requires { λ R. ⌜ Usable R × GivenIn R places × BothWeighed R (vec (places .men)) (now weights) (now carried) ⌝ }
+    requires { λ R. ⌜ Usable R × GivenIn R places × BothWeighed R (vec (places .men)) (now weights) (now wweights) ⌝ }
     requires { λ R. ⌜ (n ≤ length (now matching)) × (length (sheetOver R (vec (now weights)) places (now matching)) ≤ length (now text)) ⌝ }
     ensures { λ R r. ⌜ Put (now₀ text) 0 (sheetOver R (vec₀ weights) places (now₀ matching)) (now₁ text) r ⌝ }
 {
@@ -44,7 +44,7 @@ pub fn put_answers<'a>(
         wranks,
         places,
         weights,
-        carried,
+        wweights,
         &mut letters[..],
         &mut distances[..],
     );

@@ -1,6 +1,6 @@
 // The sheet of a book, a matching and weights.
 //
-// `weights` has the weight of each man, and `carried` that of each woman's man.
+// `weights` has the weight of each man, and `wweights` that of each woman's man.
 use book::is_small;
 use format::Checked;
 use format::Instance;
@@ -23,10 +23,10 @@ pub(crate) fn put_sheet(
     book: &[u8],
     matching: &[u8],
     weights: &[usize],
-    carried: &[usize],
+    wweights: &[usize],
     text: &mut [u8],
 ) -> usize
-    requires { ⌜ WeightsGiven (now matching) (now weights) (now carried) × Room (now weights) (now text) ⌝ }
+    requires { ⌜ WeightsGiven (now matching) (now weights) (now wweights) × Room (now weights) (now text) ⌝ }
     ensures { λ r. ⌜ Put (now₀ text) 0 (weightedSheetFor (now₀ book) (now₀ matching) (now₀ weights)) (now₁ text) r ⌝ }
 {
     if is_small(book) {
@@ -42,7 +42,7 @@ pub(crate) fn put_sheet(
             &mut wranks,
             matching,
             weights,
-            carried,
+            wweights,
             text,
         );
     }
@@ -58,7 +58,7 @@ pub(crate) fn put_sheet(
         &mut wranks,
         matching,
         weights,
-        carried,
+        wweights,
         text,
     )
 }
@@ -72,12 +72,12 @@ fn put_with(
     wranks: &mut [u16],
     matching: &[u8],
     weights: &[usize],
-    carried: &[usize],
+    wweights: &[usize],
     text: &mut [u8],
 ) -> usize
     requires { ⌜ LongTables (now book) (now mlists) (now mranks) ⌝ }
     requires { ⌜ LongTables (now book) (now wlists) (now wranks) ⌝ }
-    requires { ⌜ WeightsGiven (now matching) (now weights) (now carried) × Room (now weights) (now text) ⌝ }
+    requires { ⌜ WeightsGiven (now matching) (now weights) (now wweights) × Room (now weights) (now text) ⌝ }
     ensures { λ r. ⌜ Put (now₀ text) 0 (weightedSheetFor (now₀ book) (now₀ matching) (now₀ weights)) (now₁ text) r ⌝ }
 {
     let instance = load(book, mlists, mranks, wlists, wranks);
@@ -92,7 +92,7 @@ fn put_with(
         wranks,
         matching,
         weights,
-        carried,
+        wweights,
         text,
     )
 }
@@ -108,13 +108,13 @@ fn put_judged<'a>(
     wranks: &'a [u16],
     matching: &[u8],
     weights: &[usize],
-    carried: &[usize],
+    wweights: &[usize],
     text: &mut [u8],
 ) -> usize
     ghost { Record }
     requires { λ R. ⌜ lent n mlists mranks wlists wranks ≡ R ⌝ }
     requires { λ R. ⌜ FromBook answer R ⌝ }
-    requires { λ _. ⌜ WeightsGiven (now matching) (now weights) (now carried) × Room (now weights) (now text) ⌝ }
+    requires { λ _. ⌜ WeightsGiven (now matching) (now weights) (now wweights) × Room (now weights) (now text) ⌝ }
     ensures { λ R r. ⌜ EachBook answer R (λ b. Put (now₀ text) 0 (weightedSheetFor b (now₀ matching) (now₀ weights)) (now₁ text) r) ⌝ }
 {
     let judged = judge(answer, n, mlists, mranks, wlists, wranks, matching);
@@ -132,7 +132,7 @@ fn put_judged<'a>(
         wranks,
         places,
         weights,
-        carried,
+        wweights,
         matching,
         text,
     )

@@ -6,4 +6,4 @@ pub mod Longest
 pub mod Sheet
 pub mod Reply
 pub mod SheetLaws
-pub mod WeightsOfOne
+pub mod UnitWeights

@@ -13,9 +13,9 @@ use Rattle.matchings.specs.Matching.{womanOf}
 -- Weights as the code hands them on: k has that of each student, d that of each mentor's student in the matching m
 pub record WeightsGiven (m k d : List ℕ) : Type 0 where
   pub light : (i : ℕ) → vec k i ≤ 255
-  pub carried-light : (w : ℕ) → vec d w ≤ 255
-  pub carried-long : largest ≤ length d
-  pub carried : (n : ℕ) → n ≤ largest → length m ≡ n → length k ≡ n → Into n n (womanOf m) → (i : ℕ) → i < n → vec d (womanOf m i) ≡ vec k i
+  pub women-light : (w : ℕ) → vec d w ≤ 255
+  pub women-long : largest ≤ length d
+  pub partner : (n : ℕ) → n ≤ largest → length m ≡ n → length k ≡ n → Into n n (womanOf m) → (i : ℕ) → i < n → vec d (womanOf m i) ≡ vec k i
 
 -- What is read of the first k weights, into a list with room for one more than the largest n
 pub record MenWeighed (weights : List ℕ) (k : ℕ) (men : List ℕ) : Type 0 where

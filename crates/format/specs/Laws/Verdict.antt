@@ -16,6 +16,15 @@ stays v rest e = ap (λ (u : Verdict). andThen u rest) e ∙ sym e
 pub goes-on : (v rest : Verdict) → v ≡ fine → andThen v rest ≡ rest
 goes-on v rest e = ap (λ (u : Verdict). andThen u rest) e
 
+-- what follows counts only where the check found nothing
+pub then-same : (v : Verdict) {x y : Verdict} → (v ≡ fine → x ≡ y) → andThen v x ≡ andThen v y
+then-same fine e = e refl
+then-same (refused number place second) e = refl
+
+pub then-none : (v : Verdict) {x : Verdict} → (v ≡ fine → x ≡ fine) → andThen v x ≡ v
+then-none fine e = e refl
+then-none (refused number place second) e = refl
+
 -- where a check and what follows find nothing, each finds nothing; and so a rule that is not broken
 pub all-fine : (v rest : Verdict) → andThen v rest ≡ fine → (v ≡ fine) × (rest ≡ fine)
 all-fine fine rest e = (refl, e)

@@ -52,7 +52,7 @@ shows-alike {I} A e F K =
     }
 
 -- no total comes to that which stands for no repair
-pub weight-below : {R : Record} {men women weights carried : List ℕ} → Given R men women → BothWeighed R (vec men) weights carried → (k : ℕ → ℕ) → weight (marketIn R) (vec weights) (vec men) k < noRepair
+pub weight-below : {R : Record} {men women weights wweights : List ℕ} → Given R men women → BothWeighed R (vec men) weights wweights → (k : ℕ → ℕ) → weight (marketIn R) (vec weights) (vec men) k < noRepair
 weight-below {R} {men} {weights = weights} G B k =
     omega (arith, G .few, weight-most (marketIn R) (vec weights) (vec men) k (λ i u. B .men .light u))
 
@@ -91,20 +91,20 @@ module _ {R : Record} {men women : List ℕ} (G : Given R men women) {s : ℕ} (
     pub right : {c : ℕ → ℕ} {a : Answer} → Answers I c (vec men) s a → SameAnswer I a (answerOf I c (vec men) s)
     right {c} X = answer-unique X (answer-of (G .by-men .proper) c (G .stable) hold)
 
-    module _ {weights carried : List ℕ} (B : BothWeighed R (vec men) weights carried) where
+    module _ {weights wweights : List ℕ} (B : BothWeighed R (vec men) weights wweights) where
       -- the weight of each man
       abbrev c : ℕ → ℕ
       c = vec weights
 
       -- a push of w on the women's side says how near the repair up is
-      pub up-distant : {v x : ℕ → ℕ} {stop far : ℕ} → Tries (exchange I) (vec carried) (vec women) w stop v x far → Distant I c (vec men) (IsUp I (vec men) s) stop far
+      pub up-distant : {v x : ℕ → ℕ} {stop far : ℕ} → Tries (exchange I) (vec wweights) (vec women) w stop v x far → Distant I c (vec men) (IsUp I (vec men) s) stop far
       up-distant T = distant-up (G .by-men .proper) (G .stable) (G .mirror) hold (B .both) T
 
       -- nothing weighs so much that it stands for no repair
       most : (k : ℕ → ℕ) → weight I c (vec men) k < noRepair
       most = weight-below G B
 
-      module _ {d t v x : ℕ → ℕ} {above below : ℕ} (T : Tries (exchange I) (vec carried) (vec women) w noRepair v x above) (A : Tries I c (vec men) s above d t below) where
+      module _ {d t v x : ℕ → ℕ} {above below : ℕ} (T : Tries (exchange I) (vec wweights) (vec women) w noRepair v x above) (A : Tries I c (vec men) s above d t below) where
         -- the three answers of the code
         pub says-down : {places : List ℕ} → ((i : ℕ) → i < n → vec places i ≡ d i) → length places ≡ largest → below < above →
             Shows I c (vec men) (answerOf I c (vec men) s) (record { letter = Down; distance = below; men = places })

@@ -12,7 +12,7 @@ use Rattle.stable_theory.specs.Stable.Alike.{alike-refl, mirror-alike}
 use Rattle.stable_theory.specs.Repairs.Repair.{IsDown, IsUp, down, weight}
 use Rattle.stable_theory.specs.Repairs.RepairLaws.{down-is, down-exists, down-unique, up-unique, parts-across, down-across}
 use Rattle.stable_theory.specs.Repairs.Moves.{weight-same}
-use Rattle.stable_theory.specs.Repairs.BothSides.{Carried, weight-both}
+use Rattle.stable_theory.specs.Repairs.BothSides.{PartnerWeights, weight-both}
 use Rattle.stable_theory.specs.Repairs.Answer.{U, D, F, Answers, nearer-up, nearer-down, neither}
 use Rattle.stable_theory.specs.Repairs.AnswerAlike.{down-alike, weight-alike}
 use Rattle.pushing.specs.Push.{PushWeighed, PushedTo}
@@ -56,7 +56,7 @@ pub distant-down : {I : Market} {c p v t : ℕ → ℕ} {s stop far : ℕ} → T
 distant-down {v = v} R = record { near = λ z. (v, R .repair z, R .distance z); further = R .further }
 
 -- s holds w under the stable vector p, whose other side is t, and each receiver has the weight of who holds her
-module _ {I : Market} (M : Proper I) {p t : ℕ → ℕ} {s w : ℕ} (P : Stable I p) (X : Mirror I p t) (h : Holds I p s w) {c d : ℕ → ℕ} (C : Carried I p c d) where
+module _ {I : Market} (M : Proper I) {p t : ℕ → ℕ} {s w : ℕ} (P : Stable I p) (X : Mirror I p t) (h : Holds I p s w) {c d : ℕ → ℕ} (C : PartnerWeights I p c d) where
   -- the other side's repair down is the repair up, and is as near
   across-near : {e u : ℕ → ℕ} → Mirror I u e → IsDown (exchange I) t w e → weight (exchange I) d t e ≡ weight I c p u
   across-near Y L = sym (weight-both M P (stable-across (exchanged M) (mirror-back Y) (L .parts .stable)) X Y C)

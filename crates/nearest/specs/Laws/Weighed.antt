@@ -1,13 +1,13 @@
--- The weights of a request are those of the men over the record of the book, and those that the women carry. Assumes
--- nothing.
+-- A matching and its weights that are not refused, and the weights over the record of the book: those of the men, and
+-- of the women's men. Assumes nothing.
 use Prim.Native.Nat.{ℕ}
 use mathlib.Core.Path.{_≡_, sym, _∙_, ap}
 use mathlib.Core.List.{List}
 use native.Mathlib.Omega.{arith}
-use lib.ListN.{length}
 use Rattle.laws.specs.Values.{vec}
-use Rattle.format.specs.Verdict.{Verdict, fine, andThen}
-use Rattle.format.specs.Laws.Verdict.{all-fine}
+use Rattle.format.specs.declared.verdict.Checked.{Checked}
+use Rattle.format.specs.Verdict.{Verdict, fine, verdictOf, andThen}
+use Rattle.format.specs.Laws.Verdict.{then-same, all-fine}
 use Rattle.format.specs.Format.{people}
 use Rattle.format.specs.Record.{Record}
 use Rattle.stable_theory.specs.Stable.Holding.{held-at}
@@ -16,48 +16,57 @@ use Rattle.matchings.specs.declared.places.Judged.{Judged}
 use Rattle.matchings.specs.BookMarket.{market-proper}
 use Rattle.matchings.specs.Matching.{checkMatching}
 use Rattle.matchings.specs.Laws.StableCheck.{fine-stable}
-use Rattle.stability.specs.Laws.Judged.{BookJudged}
+use Rattle.stability.specs.Judge.{EachBook, Judges}
+use Rattle.stability.specs.Laws.Judged.{BookJudged, book-judged}
 use Rattle.repairs.specs.Weights.{checkWeights, checkWeighed}
 use Rattle.repairs.specs.Laws.Request.{weights-counted}
-use Rattle.repairs.specs.Laws.Even.{then-same}
 use Rattle.repairs.specs.Laws.RepairBytes.{holds}
 use Rattle.weights.specs.Weights.{WeightsGiven}
 use Rattle.nearest.specs.Nearest.{BothWeighed}
 use Rattle.nearest.specs.Laws.Book.{judged-formed, judged-number, judged-alike, judged-usable, judged-men}
 
--- the verdict on a matching with weights, from that on the matching and the number of the record
-pub weighed-verdict :
-    {b m : List ℕ} {R : Record} {j : Judged} → BookJudged b m R j → {v : Verdict} → v ≡ checkMatching b m → (k : List ℕ) →
-    andThen v (checkWeights (R .n) k) ≡ checkWeighed b m k
-weighed-verdict {b} {m} {R} J {v} e k =
-    ap (λ (x : Verdict). andThen x (checkWeights (R .n) k)) e
-    ∙ then-same (checkMatching b m) (λ f. ap (λ (n : ℕ). checkWeights n k) (judged-number J f))
+-- A matching of a book and weights for it in which nothing is refused, over the record of the book and what the check
+-- of the matching leaves
+pub record Allowed (b m k : List ℕ) (R : Record) (j : Judged) : Type 0 where
+  pub judged : BookJudged b m R j
+  pub stable : checkMatching b m ≡ fine
+  pub weighed : checkWeighed b m k ≡ fine
 
--- where nothing is refused the matching is stable, and there are n weights
-pub weighed-matching : (b m k : List ℕ) → checkWeighed b m k ≡ fine → checkMatching b m ≡ fine
-weighed-matching b m k f = all-fine (checkMatching b m) _ f .0
+-- The check of a matching, and rule 17 after it, for each book of which the record is made
+module _ {answer : Checked} {R : Record} {m : List ℕ} {j : Judged} (J : Judges answer R m j) (k : List ℕ) {v : Verdict}
+    (e : v ≡ andThen (verdictOf (j .checked)) (checkWeights (R .n) k)) where
+  -- are the verdict on both
+  pub weights-told : EachBook answer R (λ b. v ≡ checkWeighed b m k)
+  weights-told b B =
+      let H = book-judged B J in
+      e
+      ∙ ap (λ (u : Verdict). andThen u (checkWeights (R .n) k)) (H .judged .checked)
+      ∙ then-same (checkMatching b m) (λ f. ap (λ (n : ℕ). checkWeights n k) (judged-number H f))
 
-pub weighed-number : {b m : List ℕ} {R : Record} {j : Judged} → BookJudged b m R j → (k : List ℕ) → checkWeighed b m k ≡ fine → length k ≡ R .n
-weighed-number {b} {m} J k f =
-    let A = all-fine (checkMatching b m) _ f in
-    weights-counted (people b) k (A .1) ∙ sym (judged-number J (A .0))
+  -- where nothing is refused the matching is stable
+  pub weights-allowed : v ≡ fine → EachBook answer R (λ b. Allowed b m k R j)
+  weights-allowed g b B =
+      let f = sym (weights-told b B) ∙ g in
+      record { judged = book-judged B J; stable = all-fine (checkMatching b m) _ f .0; weighed = f }
 
--- n weights of a stable matching
-pub judged-weighed :
-    {b m : List ℕ} {R : Record} {j : Judged} → BookJudged b m R j → checkMatching b m ≡ fine → {k d : List ℕ} → WeightsGiven m k d →
-    length k ≡ R .n → BothWeighed R (vec (j .places .men)) k d
-judged-weighed {b} {m} {R} {j} J f {k} {d} G e =
+-- and there are n weights, those of the men and, by their places, of the women's men
+pub allowed-weighed :
+    {b m k d : List ℕ} {R : Record} {j : Judged} → Allowed b m k R j → WeightsGiven m k d → BothWeighed R (vec (j .places .men)) k d
+allowed-weighed {b} {m} {k} {d} A G =
+    let J = A .judged in
+    let f = A .stable in
     let S = fine-stable b m .0 f in
     let n = judged-number J f in
+    let e = weights-counted (people b) k (all-fine (checkMatching b m) _ (A .weighed) .1) in
     record {
       men = record { long = omega arith; light = λ {i} u. G .light i };
-      women = record { long = omega (arith, judged-usable J f .few, G .carried-long); light = λ {i} u. G .carried-light i };
+      women = record { long = omega (arith, judged-usable J f .few, G .women-long); light = λ {i} u. G .women-light i };
       both = record {
-        carried = λ {i} {w} h.
+        same = λ {i} {w} h.
             let u = h .pair .proposer in
             let g = holds-alike (judged-alike J f) (judged-men J f) h in
             let M = market-proper (judged-formed J f) in
             let s = sym (held-at M g) ∙ held-at M (holds S (omega (arith, n))) in
-            sym (ap (vec d) s ∙ G .carried (people b) (S .matching .formed .few) (S .matching .long) (omega (arith, n)) (S .matching .names) i (omega (arith, n)));
+            sym (ap (vec d) s ∙ G .partner (people b) (S .matching .formed .few) (S .matching .long) e (S .matching .names) i (omega (arith, n)));
       };
     }

@@ -33,7 +33,7 @@ letter-same (same-down e) = refl
 letter-same same-fixed = refl
 
 -- The groups of a stable matching of a record, what is measured of them, and what is filled in
-module _ {R : Record} {p : Places} (G : GivenIn R p) {weights carried : List ℕ} (B : BothWeighed R (vec (p .men)) weights carried) {groups : Groups} (W : GroupsOf R (vec (p .men)) groups) {above below : ℕ → ℕ} (letters distances : List ℕ)
+module _ {R : Record} {p : Places} (G : GivenIn R p) {weights wweights : List ℕ} (B : BothWeighed R (vec (p .men)) weights wweights) {groups : Groups} (W : GroupsOf R (vec (p .men)) groups) {above below : ℕ → ℕ} (letters distances : List ℕ)
     (A : BothMeasured (marketIn R) (vec weights) (vec (p .men)) (R .n) (vec (groups .down)) (vec (groups .up)) above below)
     (E : Filled (R .n) (vec (groups .down)) (vec (groups .up)) below above (R .n) (vec letters) (vec distances)) where
   abbrev n : ℕ

@@ -29,6 +29,7 @@ use Rattle.repairs.specs.Request.{askingMan, checkAsked, checkWeightedRequest}
 use Rattle.repairs.specs.Laws.RepairBytes.{holds}
 use Rattle.nearest.specs.declared.answer.Nearest.{Nearest}
 use Rattle.nearest.specs.Nearest.{Shows, ShowsFor}
+use Rattle.nearest.specs.Laws.Weighed.{Allowed}
 use Rattle.nearest.specs.Laws.Book.{judged-formed, judged-number, judged-usable, judged-given, shows-book}
 use Rattle.repair_answer.specs.Shown.{Small, gainsAt, shownAnswer, shownIn}
 use Rattle.repair.specs.Repaired.{Repaired}
@@ -53,20 +54,27 @@ module _ {b m k q out : List ℕ} {gains : List ℤ} where
       repaired-refused (c ∙ sym e) e f
 
 -- the given places fit a signed byte
-pub given-small : {b m : List ℕ} {R : Record} {j : Judged} → BookJudged b m R j → checkMatching b m ≡ fine → Small (R .n) (j .places .men)
-given-small J f =
-    let G = judged-given J f in
+pub given-small : {b m k : List ℕ} {R : Record} {j : Judged} → Allowed b m k R j → Small (R .n) (j .places .men)
+given-small A =
+    let G = judged-given (A .judged) (A .stable) in
     record {
-      long = omega (arith, J .judged .men .long, G .few);
+      long = omega (arith, A .judged .judged .men .long, G .few);
       small = λ u. omega (arith, G .placed u, G .by-men .proposers .short u, G .few);
     }
 
 -- A matching and weights that are not refused
-module _ {b m : List ℕ} (k : List ℕ) {R : Record} {j : Judged} (J : BookJudged b m R j) (f : checkMatching b m ≡ fine) (g : checkWeighed b m k ≡ fine) where
+module _ {b m k : List ℕ} {R : Record} {j : Judged} (A : Allowed b m k R j) where
+  -- what the check made of them, and that the matching is stable
+  abbrev J : BookJudged b m R j
+  J = A .judged
+
+  abbrev f : checkMatching b m ≡ fine
+  f = A .stable
+
   -- the rules of the request follow
   follows : (q : List ℕ) (room gainsRoom : ℕ) → checkWeightedRequest b m k q room gainsRoom ≡ checkAsked (R .n) m q room gainsRoom
   follows q room gainsRoom =
-      goes-on (checkWeighed b m k) (checkAsked (people b) m q room gainsRoom) g
+      goes-on (checkWeighed b m k) (checkAsked (people b) m q room gainsRoom) (A .weighed)
       ∙ ap (λ (n : ℕ). checkAsked n m q room gainsRoom) (sym (judged-number J f))
 
   pub request-refused : {q out : List ℕ} {gains : List ℤ} {r : Answer} {v : Verdict} {number place second : ℕ} →

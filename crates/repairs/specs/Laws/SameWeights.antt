@@ -51,34 +51,37 @@ module _ (b : List ℕ) {c d : ℕ → ℕ} (e : (i : ℕ) → i < people b → 
   pub grade-same : gradeOf b c m ≡ gradeOf b d m
   grade-same = robustness-weights (market b) agree (vectorOf b m)
 
--- Verdicts that are the same, and weights that agree where nothing is refused
-module _ (b m : List ℕ) {c d : ℕ → ℕ} where
+-- What depends on a verdict and on weights, and where something is refused on the verdict alone, is the same for
+-- verdicts that are the same and weights that agree where nothing is refused
+pub after-same :
+    {A : Type 0} {n : ℕ} {c d : ℕ → ℕ} (f : Verdict → (ℕ → ℕ) → A) → (((i : ℕ) → i < n → c i ≡ d i) → f fine c ≡ f fine d) →
+    ((number place second : ℕ) → f (refused number place second) c ≡ f (refused number place second) d) →
+    {v w : Verdict} → v ≡ w → (v ≡ fine → (i : ℕ) → i < n → c i ≡ d i) → f v c ≡ f w d
+after-same {n = n} {c = c} {d = d} f found none {v} k e = by v e ∙ ap (λ (x : Verdict). f x d) k
+  where
+    by : (v : Verdict) → (v ≡ fine → (i : ℕ) → i < n → c i ≡ d i) → f v c ≡ f v d
+    by fine e = found (e refl)
+    by (refused number place second) e = none number place second
+
+module _ (b m : List ℕ) {c d : ℕ → ℕ} {v w : Verdict} (k : v ≡ w) (e : v ≡ fine → (i : ℕ) → i < people b → c i ≡ d i) where
   -- so are the reply to a request and the two buffers
-  pub reply-same : (q : List ℕ) {v w : Verdict} → v ≡ w → (v ≡ fine → (i : ℕ) → i < people b → c i ≡ d i) → replyAfter v c b m q ≡ replyAfter w d b m q
-  reply-same q {v} {w} k e = by v e ∙ ap (λ (x : Verdict). replyAfter x d b m q) k
-    where
-      by : (v : Verdict) → (v ≡ fine → (i : ℕ) → i < people b → c i ≡ d i) → replyAfter v c b m q ≡ replyAfter v d b m q
-      by fine e = ap gives (shown-same b (e refl) m (askingMan q))
-      by (refused number place second) e = refl
+  pub reply-same : (q : List ℕ) → replyAfter v c b m q ≡ replyAfter w d b m q
+  reply-same q =
+      after-same (λ x h. replyAfter x h b m q) (λ a. ap gives (shown-same b a m (askingMan q))) (λ number place second. refl) k e
 
-  pub matching-same : (q out : List ℕ) {v w : Verdict} → v ≡ w → (v ≡ fine → (i : ℕ) → i < people b → c i ≡ d i) → matchingAfter v c b m q out ≡ matchingAfter w d b m q out
-  matching-same q out {v} {w} k e = by v e ∙ ap (λ (x : Verdict). matchingAfter x d b m q out) k
-    where
-      by : (v : Verdict) → (v ≡ fine → (i : ℕ) → i < people b → c i ≡ d i) → matchingAfter v c b m q out ≡ matchingAfter v d b m q out
-      by fine e = ap (λ (a : Answer). filled fine (entriesFor b a) (matchingFor b a) out) (answer-same b (e refl) m (askingMan q))
-      by (refused number place second) e = refl
+  pub matching-same : (q out : List ℕ) → matchingAfter v c b m q out ≡ matchingAfter w d b m q out
+  matching-same q out =
+      after-same (λ x h. matchingAfter x h b m q out)
+      (λ a. ap (λ (y : Answer). filled fine (entriesFor b y) (matchingFor b y) out) (answer-same b a m (askingMan q)))
+      (λ number place second. refl) k e
 
-  pub gains-same : (q : List ℕ) (gains : List ℤ) {v w : Verdict} → v ≡ w → (v ≡ fine → (i : ℕ) → i < people b → c i ≡ d i) → gainsAfter v c b m q gains ≡ gainsAfter w d b m q gains
-  gains-same q gains {v} {w} k e = by v e ∙ ap (λ (x : Verdict). gainsAfter x d b m q gains) k
-    where
-      by : (v : Verdict) → (v ≡ fine → (i : ℕ) → i < people b → c i ≡ d i) → gainsAfter v c b m q gains ≡ gainsAfter v d b m q gains
-      by fine e = ap (λ (a : Answer). filled fine (entriesFor b a) (gainsFor b m a) gains) (answer-same b (e refl) m (askingMan q))
-      by (refused number place second) e = refl
+  pub gains-same : (q : List ℕ) (gains : List ℤ) → gainsAfter v c b m q gains ≡ gainsAfter w d b m q gains
+  gains-same q gains =
+      after-same (λ x h. gainsAfter x h b m q gains)
+      (λ a. ap (λ (y : Answer). filled fine (entriesFor b y) (gainsFor b m y) gains) (answer-same b a m (askingMan q)))
+      (λ number place second. refl) k e
 
   -- and the reply with the grade
-  pub graded-same : {v w : Verdict} → v ≡ w → (v ≡ fine → (i : ℕ) → i < people b → c i ≡ d i) → after v (gradeOf b c m) ≡ after w (gradeOf b d m)
-  graded-same {v} {w} k e = by v e ∙ ap (λ (x : Verdict). after x (gradeOf b d m)) k
-    where
-      by : (v : Verdict) → (v ≡ fine → (i : ℕ) → i < people b → c i ≡ d i) → after v (gradeOf b c m) ≡ after v (gradeOf b d m)
-      by fine e = ap gives (grade-same b (e refl) m)
-      by (refused number place second) e = refl
+  pub graded-same : after v (gradeOf b c m) ≡ after w (gradeOf b d m)
+  graded-same =
+      after-same (λ x h. after x (gradeOf b h m)) (λ a. ap gives (grade-same b a m)) (λ number place second. refl) k e

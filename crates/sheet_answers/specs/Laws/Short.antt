@@ -116,8 +116,8 @@ parts-short b m =
     (omega (arith, matching-most b m))
 
 -- and no weighted one, with weights of at most 1, and of at most 255
-pub even-short : (b m k : List ℕ) → ((i : ℕ) → weightOf k i ≤ 1) → length (weightedSheetFor b m k) ≤ longest
-even-short b m k light =
+pub unit-short : (b m k : List ℕ) → ((i : ℕ) → weightOf k i ≤ 1) → length (weightedSheetFor b m k) ≤ longest
+unit-short b m k light =
     after-short b (weightOf k) m {h = 1} {e = digits} (λ i u. light i) (omega arith) (omega arith) (checkWeighed b m k)
     (λ f. all-fine (checkMatching b m) _ f .0) (weighed-most b m k)
 

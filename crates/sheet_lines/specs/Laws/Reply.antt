@@ -12,6 +12,8 @@ use Rattle.format.specs.Verdict.{Verdict}
 use Rattle.format.specs.Outcome.{Outcome, gives, refusal, after, countOutcome}
 use Rattle.format.specs.Laws.Outcome.{gives-same, after-refused, after-fine, filled-refused, filled-fine, room-broken, room-kept}
 use Rattle.sheets.specs.Reply.{replyWith, bufferWith}
+use Rattle.sheet_text.specs.Put.{Put}
+use Rattle.sheet_text.specs.Laws.Put.{put-take}
 
 module _ (sheet out : List ℕ) where
   -- the buffer is too short for the sheet
@@ -27,6 +29,13 @@ module _ (sheet out : List ℕ) where
   sheet-copied h q =
       let e = room-kept (length sheet) (length out) h in
       (after-fine e refl refl, filled-fine e _ _ out (q ∙ ap (λ (l : List ℕ). l ++ drop (length sheet) out) (take-length sheet)))
+
+-- the text that was put and then copied is the sheet
+pub sheet-given :
+    (out : List ℕ) {sheet text now after : List ℕ} {len : ℕ} {o : Outcome ℕ} → Put text 0 sheet now len →
+    (o ≡ replyWith (take len now) (length out)) × (after ≡ bufferWith (take len now) out) →
+    (o ≡ replyWith sheet (length out)) × (after ≡ bufferWith sheet out)
+sheet-given out P R = rw (put-take P) at R
 
 -- the bytes that were written are within the buffer
 pub bytes-within : (sheet : List ℕ) (room : ℕ) {w : Counted} {k : ℕ} → countOutcome w ≡ replyWith sheet room → w ≡ Count k → k ≤ room

@@ -15,8 +15,8 @@ use Rattle.stable_theory.specs.Repairs.Repair.{moved, weight}
 use Rattle.stable_theory.specs.Repairs.Moves.{moved-true, moved-moved}
 
 -- Each receiver has the weight of the proposer who holds her
-pub record Carried (I : Market) (p c d : ℕ → ℕ) : Type 0 where
-  pub carried : {i w : ℕ} → Holds I p i w → c i ≡ d w
+pub record PartnerWeights (I : Market) (p c d : ℕ → ℕ) : Type 0 where
+  pub same : {i w : ℕ} → Holds I p i w → c i ≡ d w
 
 -- p and v are stable, and t and u are their other sides
 module _ {I : Market} (M : Proper I) {p v t u : ℕ → ℕ} (P : Stable I p) (N : Stable I v) (X : Mirror I p t) (Y : Mirror I v u) where
@@ -39,7 +39,7 @@ module _ {I : Market} (M : Proper I) {p v t u : ℕ → ℕ} (P : Stable I p) (N
       moved-true p v e (Y .back k .is ∙ sym (h .is)))
 
   -- so the receivers who move weigh no less than the proposers
-  moved-proposers : {c d : ℕ → ℕ} → Carried I p c d → weight I c p v ≤ weight (exchange I) d t u
+  moved-proposers : {c d : ℕ → ℕ} → PartnerWeights I p c d → weight I c p v ≤ weight (exchange I) d t u
   unfolding weight
   moved-proposers {c} {d} C =
       sum-into (I .proposers .size) (I .receivers .size) (moved p v) (moved t u) c d (λ i. I .proposers .at i (p i))
@@ -48,13 +48,13 @@ module _ {I : Market} (M : Proper I) {p v t u : ℕ → ℕ} (P : Stable I p) (N
         passes = λ i l e. moved-receiver (moved-holds l e) e;
         apart = λ i j l m e f g. holder-unique M (P .settled) (moved-holds l e) (rw (← g) at (moved-holds m f));
       })
-      (λ i l e. omega (arith, C .carried (moved-holds l e)))
+      (λ i l e. omega (arith, C .same (moved-holds l e)))
 
 -- and no more: the same seen from the other side
 pub weight-both :
     {I : Market} → Proper I → {p v t u : ℕ → ℕ} → Stable I p → Stable I v → Mirror I p t → Mirror I v u → {c d : ℕ → ℕ} →
-    Carried I p c d → weight I c p v ≡ weight (exchange I) d t u
+    PartnerWeights I p c d → weight I c p v ≡ weight (exchange I) d t u
 weight-both M P N X Y C =
     let there = moved-proposers M P N X Y C in
-    let back = moved-proposers (exchanged M) (stable-across M X P) (stable-across M Y N) (mirror-back X) (mirror-back Y) (record { carried = λ h. sym (C .carried (X .back h)) }) in
+    let back = moved-proposers (exchanged M) (stable-across M X P) (stable-across M Y N) (mirror-back X) (mirror-back Y) (record { same = λ h. sym (C .same (X .back h)) }) in
     omega arith

@@ -11,7 +11,7 @@ use Rattle.format.specs.Verdict.{fine}
 use Rattle.format.specs.Format.{largest, people}
 use Rattle.matchings.specs.Matching.{womanOf, checkMatching}
 use Rattle.matchings.specs.Laws.StableCheck.{fine-stable}
-use Rattle.repairs.specs.Laws.Even.{Even}
+use Rattle.repairs.specs.Laws.UnitWeights.{UnitWeights}
 use Rattle.weights.specs.Weights.{WeightsGiven}
 
 -- a 1 for each of the largest n
@@ -47,16 +47,16 @@ pub ones-given : (m : List ℕ) (n : ℕ) → n ≤ largest → WeightsGiven m (
 ones-given m n h =
     record {
       light = λ i. omega (arith, ones-most n i h);
-      carried-light = λ w. omega (arith, ones-light w);
-      carried-long = omega (arith, length-replicate {A = ℕ} largest 1);
-      carried = λ k few a b N i u.
+      women-light = λ w. omega (arith, ones-light w);
+      women-long = omega (arith, length-replicate {A = ℕ} largest 1);
+      partner = λ k few a b N i u.
           let v : i < n = omega (arith, ones-length n h) in
           ones-at (womanOf m i) (omega (arith, N .below u)) ∙ sym (ones-read n i h v);
     }
 
 -- and where the matching is not refused, n weights of 1 for the students of the book
-pub ones-even : (b m : List ℕ) {n : ℕ} → n ≡ min (people b) largest → checkMatching b m ≡ fine → Even (people b) (take n ones)
-ones-even b m {n} q f =
+pub ones-unit : (b m : List ℕ) {n : ℕ} → n ≡ min (people b) largest → checkMatching b m ≡ fine → UnitWeights (people b) (take n ones)
+ones-unit b m {n} q f =
     let few : people b ≤ largest = fine-stable b m .0 f .matching .formed .few in
     let e : n ≡ people b = omega arith in
     rw e (record { all = ones-length (people b) few; one = λ i u. ones-read (people b) i few u })

@@ -93,9 +93,9 @@ module _ {weights men : List ℕ} {count : ℕ} (c : count ≡ min (largest + 1)
             split count i
             (λ h. omega (arith, List·getD-eq-default (take count men) 0 {n = i} (omega (arith, length-take count men))))
             (λ h. omega (arith, getD-take count men i 0 h, M .light i));
-        carried-light = W .light (M .light);
-        carried-long = omega (arith, W .long);
-        carried = λ n′ few a b N i u.
+        women-light = W .light (M .light);
+        women-long = omega (arith, W .long);
+        partner = λ n′ few a b N i u.
             let q : n′ ≡ n = omega (arith, length-take count men, M .long) in
             let v : i < n = omega arith in
             front-stored (W .stored (subst (λ (z : ℕ). Into z z (womanOf m)) q N)) v ∙ sym (getD-take count men i 0 (omega arith));

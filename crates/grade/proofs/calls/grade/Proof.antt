@@ -6,8 +6,8 @@ use denote.Ref.{now}
 use lib.ListN.{take}
 use borrow.Author.Needs.{needs}
 use Rattle.format.specs.Format.{largest}
-use Rattle.repairs.specs.Laws.Even.{even-grade}
-use Rattle.weights.specs.Laws.Ones.{ones, ones-length, ones-given, ones-even}
+use Rattle.repairs.specs.Laws.UnitWeights.{unit-grade}
+use Rattle.weights.specs.Laws.Ones.{ones, ones-length, ones-given, ones-unit}
 use Rattle.grade.proofs.calls.grade.Statement.{statement}
 use Rattle.grade.proofs.calls.grade.Tie as tie
 
@@ -28,7 +28,7 @@ returns c =
     let s : tie.Start = search in
     let b = now (s .args .book) in
     let m = now (s .args .matching) in
-    r .grade-by .ensures ∙ even-grade b m (take (n .student-count .result) ones) (ones-even b m (n .student-count .ensures))
+    r .grade-by .ensures ∙ unit-grade b m (take (n .student-count .result) ones) (ones-unit b m (n .student-count .ensures))
 
 pub grade-spec : {M : Type 1} → statement M
 grade-spec =

@@ -6,7 +6,7 @@ use mathlib.Core.List.{List}
 use denote.Ref.{now}
 use borrow.Author.Needs.{needs}
 use Rattle.repairs.specs.Grade.{weightedGrade}
-use Rattle.repairs.specs.Laws.Even.{cut-grade}
+use Rattle.repairs.specs.Laws.UnitWeights.{cut-grade}
 use Rattle.grade.proofs.calls.weighted_grade.Statement.{statement}
 use Rattle.grade.proofs.calls.weighted_grade.Tie as tie
 

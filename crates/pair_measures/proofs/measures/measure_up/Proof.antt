@@ -17,13 +17,13 @@ use Rattle.pair_measures.proofs.measures.measure_up.Statement.{statemen
 use Rattle.pair_measures.proofs.measures.measure_up.Tie as tie
 
 abbrev Inv-loop : tie.InvT-loop
-Inv-loop n mlists mranks wlists wranks weights carried up above₀ men women s₀ above s =
+Inv-loop n mlists mranks wlists wranks weights wweights up above₀ men women s₀ above s =
     Measured (marketOf n n mlists wlists) (vec weights) (vec men) s (IsUp (marketOf n n mlists wlists) (vec men)) (vec up) (λ s. noRepair) (vec above)
     × (length above ≡ length above₀)
     × (s ≤ n)
 
 abbrev μ-loop : tie.MeasureT-loop
-μ-loop n mlists mranks wlists wranks weights carried up above₀ men women s₀ above s = n - s
+μ-loop n mlists mranks wlists wranks weights wweights up above₀ men women s₀ above s = n - s
 
 list-at-requires : tie.Need-list-at-requires Inv-loop μ-loop
 list-at-requires c κs =

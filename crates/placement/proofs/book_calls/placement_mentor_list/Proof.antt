@@ -3,11 +3,11 @@ use Prim.Native.Nat.{_+_}
 use mathlib.Core.Path.{_≡_, sym, _∙_, ap}
 use native.Mathlib.Omega.{arith}
 use borrow.Author.Needs.{needs}
-use Rattle.format.specs.Verdict.{Verdict, fine, verdictOf}
+use Rattle.format.specs.Verdict.{fine, verdictOf}
 use Rattle.format.specs.Format.{people, offset, listLength}
 use Rattle.format.specs.Person.{checkPerson}
 use Rattle.format.specs.Laws.Person.{person-byte}
-use Rattle.replies.specs.Replies.{replyFor, refused-reply}
+use Rattle.replies.specs.Replies.{refused-given}
 use Rattle.placement.proofs.book_calls.placement_mentor_list.Statement.{statement}
 use Rattle.placement.proofs.book_calls.placement_mentor_list.Tie as tie
 
@@ -21,9 +21,7 @@ returns c =
     let z : tie.Start = search in
     let s = z .args in
     let b = s .book .now in
-    c .verdict-reply .ensures
-    ∙ (refused-reply (ap verdictOf (t .enum-told2 .given .1)) 0 0 (offset b (people b + s .mentor)) (listLength b (people b + s .mentor))
-    ∙ ap (λ (v : Verdict). replyFor v (offset b (people b + s .mentor)) (listLength b (people b + s .mentor))) (d .check-person .ensures))
+    refused-given (c .verdict-reply .ensures) (ap verdictOf (t .enum-told2 .given .1)) (d .check-person .ensures) (offset b (people b + s .mentor)) (listLength b (people b + s .mentor))
 
 -- the check found nothing
 passed : (c : tie.After-enum-told) → checkPerson (start c .args .book .now) (start c .args .mentor) ≡ fine

@@ -2,11 +2,11 @@
 use mathlib.Core.Path.{_≡_, sym, _∙_, ap}
 use native.Mathlib.Omega.{arith}
 use borrow.Author.Needs.{needs}
-use Rattle.format.specs.Verdict.{Verdict, fine, verdictOf}
+use Rattle.format.specs.Verdict.{fine, verdictOf}
 use Rattle.format.specs.Format.{offset, listLength}
 use Rattle.format.specs.Person.{checkPerson}
 use Rattle.format.specs.Laws.Person.{person-byte}
-use Rattle.replies.specs.Replies.{replyFor, refused-reply}
+use Rattle.replies.specs.Replies.{refused-given}
 use Rattle.placement.proofs.book_calls.placement_student_list.Statement.{statement}
 use Rattle.placement.proofs.book_calls.placement_student_list.Tie as tie
 
@@ -20,9 +20,7 @@ returns c =
     let z : tie.Start = search in
     let s = z .args in
     let b = s .book .now in
-    c .verdict-reply .ensures
-    ∙ (refused-reply (ap verdictOf (t .enum-told2 .given .1)) 0 0 (offset b (s .student)) (listLength b (s .student))
-    ∙ ap (λ (v : Verdict). replyFor v (offset b (s .student)) (listLength b (s .student))) (d .check-person .ensures))
+    refused-given (c .verdict-reply .ensures) (ap verdictOf (t .enum-told2 .given .1)) (d .check-person .ensures) (offset b (s .student)) (listLength b (s .student))
 
 -- the check found nothing
 passed : (c : tie.After-enum-told) → checkPerson (start c .args .book .now) (start c .args .student) ≡ fine

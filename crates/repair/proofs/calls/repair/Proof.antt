@@ -7,8 +7,8 @@ use denote.Ref.{now}
 use lib.ListN.{take}
 use borrow.Author.Needs.{needs}
 use Rattle.format.specs.Format.{largest}
-use Rattle.repairs.specs.Laws.Even.{even-reply, even-matching, even-gains}
-use Rattle.weights.specs.Laws.Ones.{ones, ones-length, ones-given, ones-even}
+use Rattle.repairs.specs.Laws.UnitWeights.{unit-reply, unit-matching, unit-gains}
+use Rattle.weights.specs.Laws.Ones.{ones, ones-length, ones-given, ones-unit}
 use Rattle.repair.proofs.calls.repair.Statement.{statement}
 use Rattle.repair.proofs.calls.repair.Tie as tie
 
@@ -31,12 +31,12 @@ returns c =
     let b = now (a .book) in
     let m = now (a .matching) in
     let k = take (n .student-count .result) ones in
-    let E = ones-even b m (n .student-count .ensures) in
+    let E = ones-unit b m (n .student-count .ensures) in
     let R = r .repair-by .ensures in (
-      R .0 ∙ even-reply b m k E (now (a .request)) (now (a .out)) (now (a .gains)),
+      R .0 ∙ unit-reply b m k E (now (a .request)) (now (a .out)) (now (a .gains)),
       (
-        R .1 .0 ∙ even-matching b m k E (now (a .request)) (now (a .out)) (now (a .gains)),
-        R .1 .1 ∙ even-gains b m k E (now (a .request)) (now (a .out)) (now (a .gains)),
+        R .1 .0 ∙ unit-matching b m k E (now (a .request)) (now (a .out)) (now (a .gains)),
+        R .1 .1 ∙ unit-gains b m k E (now (a .request)) (now (a .out)) (now (a .gains)),
       ),
     )
 

@@ -6,7 +6,7 @@ use Prim.Native.Nat.{ℕ}
 use denote.Ref.{now}
 use borrow.Author.Needs.{needs}
 use Rattle.repairs.specs.Repair.{weightedReply, weightedMatching, weightedGains}
-use Rattle.repairs.specs.Laws.Even.{cut-reply, cut-matching, cut-gains}
+use Rattle.repairs.specs.Laws.UnitWeights.{cut-reply, cut-matching, cut-gains}
 use Rattle.repair.proofs.calls.weighted_repair.Statement.{statement}
 use Rattle.repair.proofs.calls.weighted_repair.Tie as tie
 

@@ -1,7 +1,6 @@
 -- `repair_in` meets its contract: a refusal of the matching or the weights, of the request or of its pair, and the
--- answer. `judged` says what the check made of a book and the matching, `told` that `checked` is the verdict on it with
--- the weights, `passed` that the matching is stable, `named` that the rules of the request are those of the pair,
--- `admitted` that it is not refused. Assumes nothing.
+-- answer. `named` says that the rules of the request are those of the pair, `admitted` that it is not refused. Assumes
+-- nothing.
 use Prim.Native.Nat.{_<_}
 use mathlib.Core.Path.{_≡_, sym, _∙_, ap}
 use native.Mathlib.Omega.{arith}
@@ -10,14 +9,11 @@ use lib.ListN.{length}
 use borrow.Author.Needs.{needs}
 use Rattle.format.specs.Verdict.{fine, verdictOf}
 use Rattle.format.specs.Record.{Record, lent}
-use Rattle.matchings.specs.Matching.{checkMatching}
 use Rattle.stability.specs.Judge.{EachBook}
-use Rattle.stability.specs.Laws.Judged.{BookJudged, book-judged}
 use Rattle.repairs.specs.Request.{checkPair, checkAsked}
 use Rattle.repairs.specs.Laws.Request.{Asked, asked, asked-13, asked-pair}
-use Rattle.repairs.specs.Weights.{checkWeighed}
 use Rattle.nearest.specs.Laws.Book.{judged-given, judged-long}
-use Rattle.nearest.specs.Laws.Weighed.{weighed-verdict, weighed-matching, weighed-number, judged-weighed}
+use Rattle.nearest.specs.Laws.Weighed.{Allowed, weights-told, weights-allowed, allowed-weighed}
 use Rattle.repair.specs.Laws.Returns.{matching-refused, request-refused, given-small, found-writable, returns-found}
 use Rattle.repair.proofs.pair.repair_in.Statement.{statement}
 use Rattle.repair.proofs.pair.repair_in.Tie as tie
@@ -51,31 +47,12 @@ found c = search
 abbrev made : tie.Start → Record
 made s = let a = s .args in lent (a .n) (a .mlists) (a .mranks) (a .wlists) (a .wranks)
 
-judged :
-    (c : tie.After-judge) →
-    let s = start c in
-    EachBook (s .args .answer) (made s) (λ b. BookJudged b (now (s .args .matching)) (made s) (c .judge .result))
-judged c b B = book-judged B (c .judge .ensures)
-
-told :
-    (c : tie.After-check-weights) →
-    let s = start (before c) in
-    EachBook (s .args .answer) (made s) (λ b. verdictOf (c .check-weights .result) ≡ checkWeighed b (now (s .args .matching)) (now (s .args .weights)))
-told c b B =
-    let J = judged (before c) b B in
-    c .check-weights .ensures ∙ weighed-verdict J (J .judged .checked) _
-
+-- where nothing is refused the matching and the weights are as the laws ask
 allowed :
     (c : tie.After-enum-told) →
     let s = start (stable c) in
-    EachBook (s .args .answer) (made s) (λ b. checkWeighed b (now (s .args .matching)) (now (s .args .weights)) ≡ fine)
-allowed c b B = sym (told (weighed c) b B) ∙ ap verdictOf (c .enum-told .given .1)
-
-passed :
-    (c : tie.After-enum-told) →
-    let s = start (stable c) in
-    EachBook (s .args .answer) (made s) (λ b. checkMatching b (now (s .args .matching)) ≡ fine)
-passed c b B = weighed-matching b _ _ (allowed c b B)
+    EachBook (s .args .answer) (made s) (λ b. Allowed b (now (s .args .matching)) (now (s .args .weights)) (made s) (stable c .judge .result))
+allowed c = weights-allowed (stable c .judge .ensures) _ (weighed c .check-weights .ensures) (ap verdictOf (c .enum-told .given .1))
 
 named :
     (c : tie.After-pair-in) →
@@ -105,7 +82,7 @@ student c = omega (arith, asking c .pair-in .ensures .0, asks c .student)
 returns : tie.Need-returns
 returns c =
     let d : tie.After-check-weights = search in
-    λ b B. matching-refused (told d b B) (ap verdictOf (c .before .enum-told2 .given .1)) (c .refused .ensures)
+    λ b B. matching-refused (weights-told (before d .judge .ensures) _ (d .check-weights .ensures) b B) (ap verdictOf (c .before .enum-told2 .given .1)) (c .refused .ensures)
 
 returns-2 : tie.Need-returns-2
 returns-2 c =
@@ -113,13 +90,14 @@ returns-2 c =
     let o : tie.Then1 = search in
     let r : tie.After-refuse = search in
     let v = r .refuse .ensures in
-    λ b B. request-refused _ (judged (stable t) b B) (passed t b B) (allowed t b B) (v ∙ sym (asked-13 _ _ _ _ _ (o .if1 .taken))) v (c .refused2 .ensures)
+    λ b B. request-refused (allowed t b B) (v ∙ sym (asked-13 _ _ _ _ _ (o .if1 .taken))) v (c .refused2 .ensures)
 
 check-pair-requires : tie.Need-check-pair-requires
 check-pair-requires c κs =
     let t : tie.After-enum-told = search in
     let B = start (stable t) .pre .0 .recorded in
-    judged-long (judged (stable t) _ B) (passed t _ B)
+    let A = allowed t _ B in
+    judged-long (A .judged) (A .stable)
 
 returns-3 : tie.Need-returns-3
 returns-3 c =
@@ -127,16 +105,15 @@ returns-3 c =
     let p : tie.After-pair-in = search in
     let t = paired p in
     let e = ap verdictOf (c .before .enum-told4 .given .1) in
-    λ b B. request-refused _ (judged (stable t) b B) (passed t b B) (allowed t b B) (k .check-pair .ensures ∙ sym (named p)) e (c .refused3 .ensures)
+    λ b B. request-refused (allowed t b B) (k .check-pair .ensures ∙ sym (named p)) e (c .refused3 .ensures)
 
 nearest-requires : tie.Need-nearest-requires
 nearest-requires c κs =
     let w : tie.After-enum-told3 = search in
     let t = paired (asking w) in
     let B = start (stable t) .pre .0 .recorded in
-    let J = judged (stable t) _ B in
-    let f = passed t _ B in
-    ((judged-given J f, omega (arith, student w)), judged-weighed J f (start (stable t) .pre .1) (weighed-number J _ (allowed t _ B)))
+    let A = allowed t _ B in
+    ((judged-given (A .judged) (A .stable), omega (arith, student w)), allowed-weighed A (start (stable t) .pre .1))
 
 answer-requires : tie.Need-answer-requires
 answer-requires c κs =
@@ -144,9 +121,9 @@ answer-requires c κs =
     let w = found r in
     let t = paired (asking w) in
     let B = start (stable t) .pre .0 .recorded in
-    let J = judged (stable t) _ B in (
-      found-writable _ J (passed t _ B) (allowed t _ B) (student w) (r .nearest .ensures) (asks w .room-fits),
-      (given-small J (passed t _ B), asks w .gains-fit),
+    let A = allowed t _ B in (
+      found-writable A (student w) (r .nearest .ensures) (asks w .room-fits),
+      (given-small A, asks w .gains-fit),
     )
 
 returns-4 : tie.Need-returns-4
@@ -157,7 +134,7 @@ returns-4 c =
     let p = asking w in
     let t = paired p in
     let E = f .answer .ensures in
-    λ b B. returns-found _ (judged (stable t) b B) (passed t b B) (allowed t b B) (student w) (r .nearest .ensures) (p .pair-in .ensures .0) (admitted w)
+    λ b B. returns-found (allowed t b B) (student w) (r .nearest .ensures) (p .pair-in .ensures .0) (admitted w)
     (E .0) (E .1 .0) (E .1 .1)
 
 pub repair-in-spec : {M : Type 1} → statement M

@@ -8,10 +8,10 @@ use lib.ListN.{length, take}
 use lib.Seq.{length-take-le}
 use borrow.Author.Needs.{needs}
 use Rattle.format.specs.Format.{largest}
-use Rattle.sheets.specs.WeightsOfOne.{even-sheet}
+use Rattle.sheets.specs.UnitWeights.{unit-sheet}
 use Rattle.sheet_text.specs.Laws.Put.{put-as}
-use Rattle.sheet_answers.specs.Laws.Short.{even-short, parts-short}
-use Rattle.weights.specs.Laws.Ones.{ones, ones-length, ones-given, ones-even, ones-most}
+use Rattle.sheet_answers.specs.Laws.Short.{unit-short, parts-short}
+use Rattle.weights.specs.Laws.Ones.{ones, ones-length, ones-given, ones-unit, ones-most}
 use Rattle.sheet_lines.specs.Room.{Room}
 use Rattle.sheet_lines.specs.Laws.Parts.{rest, end-within, sheet-parts}
 use Rattle.sheet_lines.proofs.calls.put_plain.Statement.{statement}
@@ -31,7 +31,7 @@ put-sheet-requires c κs =
     let s : tie.Start = search in
     let j = n .student-count .result in
     let room : Room (take j ones) (now (s .args .text)) =
-    record { refusal = omega (arith, s .pre); sheet = λ b m. omega (arith, s .pre, even-short b m (take j ones) (λ i. ones-most j i (few n))) } in
+    record { refusal = omega (arith, s .pre); sheet = λ b m. omega (arith, s .pre, unit-short b m (take j ones) (λ i. ones-most j i (few n))) } in
     (ones-given _ _ (few n), room)
 
 returns : tie.Need-returns
@@ -44,7 +44,7 @@ returns c =
     let b = take (e .book-end .result) input in
     let m = rest input (e .book-end .result) in
     let k = take (n .student-count .result) ones in
-    let q = even-sheet b m k (ones-even b m (n .student-count .ensures)) ∙ sym (sheet-parts input (e .book-end .ensures)) in
+    let q = unit-sheet b m k (ones-unit b m (n .student-count .ensures)) ∙ sym (sheet-parts input (e .book-end .ensures)) in
     let P = put-as q (p .put-sheet .ensures) in
     (P, omega (arith, P .next, ap length (sheet-parts input (e .book-end .ensures)), parts-short b m))
 

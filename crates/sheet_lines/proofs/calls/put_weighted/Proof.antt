@@ -9,7 +9,7 @@ use lib.Seq.{length-take-le}
 use borrow.Author.Needs.{needs}
 use Rattle.format.specs.Format.{people}
 use Rattle.sheets.specs.Sheet.{weightedSheetFor}
-use Rattle.sheets.specs.WeightsOfOne.{cut-sheet}
+use Rattle.sheets.specs.UnitWeights.{cut-sheet}
 use Rattle.sheet_text.specs.Laws.Put.{put-as}
 use Rattle.sheet_answers.specs.Laws.Short.{weighted-short}
 use Rattle.sheet_lines.specs.Room.{Room}

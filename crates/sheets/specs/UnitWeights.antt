@@ -5,15 +5,15 @@ use mathlib.Core.List.{List, _++_}
 use native.Mathlib.Omega.{arith}
 use lib.ListN.{length, take, drop, replicate, length-drop, List·getD-append}
 use lib.Seq.{take-at, drop-append-seam, take-append-le, drop-append-le, getD-take}
-use Rattle.format.specs.Verdict.{Verdict, fine, refused}
+use Rattle.format.specs.Verdict.{Verdict, fine}
 use Rattle.format.specs.Format.{largest, people, size}
 use Rattle.stable_theory.specs.Repairs.Answer.{Answer, U, D, F}
 use Rattle.matchings.specs.Matching.{checkMatching}
 use Rattle.matchings.specs.Extreme.{matchingOf}
 use Rattle.rotations.specs.RotationList.{rotationCount}
 use Rattle.repairs.specs.Repair.{answerFor}
-use Rattle.repairs.specs.Laws.SameWeights.{moved-same, answer-same, grade-same}
-use Rattle.repairs.specs.Laws.Even.{Even, even-ones, even-weighed, cut-weighed, cut-read}
+use Rattle.repairs.specs.Laws.SameWeights.{moved-same, answer-same, grade-same, after-same}
+use Rattle.repairs.specs.Laws.UnitWeights.{UnitWeights, unit-ones, unit-weighed, cut-weighed, cut-read}
 use Rattle.sheets.specs.Line.{topLine}
 use Rattle.sheets.specs.LineLaws.{lines-same}
 use Rattle.sheets.specs.Sheet.{bookPart, matchingPart, weighedPart, weightsPart, letterOf, distanceOf, answers, sheetAfter, sheetFor, weightedSheetFor, sheetOf, weightedSheetOf}
@@ -38,18 +38,15 @@ module _ (b : List ℕ) {c d : ℕ → ℕ} (e : (i : ℕ) → i < people b → 
       )))
 
 -- so the sheet depends on the verdict, and on the weights of the n students
-module _ (b m : List ℕ) {c d : ℕ → ℕ} where
-  sheet-same : {v w : Verdict} → v ≡ w → (v ≡ fine → (i : ℕ) → i < people b → c i ≡ d i) → sheetAfter v b c m ≡ sheetAfter w b d m
-  sheet-same {v} {w} k e = by v e ∙ ap (λ (x : Verdict). sheetAfter x b d m) k
-    where
-      by : (v : Verdict) → (v ≡ fine → (i : ℕ) → i < people b → c i ≡ d i) → sheetAfter v b c m ≡ sheetAfter v b d m
-      by fine e = answers-same b (e refl) m
-      by (refused number place second) e = refl
+sheet-same :
+    (b m : List ℕ) {c d : ℕ → ℕ} {v w : Verdict} → v ≡ w → (v ≡ fine → (i : ℕ) → i < people b → c i ≡ d i) →
+    sheetAfter v b c m ≡ sheetAfter w b d m
+sheet-same b m = after-same (λ x h. sheetAfter x b h m) (λ a. answers-same b a m) (λ number place second. refl)
 
 -- where there are n weights, each of them 1, it is the plain sheet
-pub even-sheet : (b m k : List ℕ) → (checkMatching b m ≡ fine → Even (people b) k) → weightedSheetFor b m k ≡ sheetFor b m
-even-sheet b m k E =
-    let e = even-weighed b m k E in
+pub unit-sheet : (b m k : List ℕ) → (checkMatching b m ≡ fine → UnitWeights (people b) k) → weightedSheetFor b m k ≡ sheetFor b m
+unit-sheet b m k E =
+    let e = unit-weighed b m k E in
     sheet-same b m e (λ f. E (sym e ∙ f) .one)
 
 -- and one weight more than the largest n is enough to see that there are too many
@@ -58,7 +55,7 @@ cut-sheet b m k = sheet-same b m (cut-weighed b m k) (cut-read b m k)
 
 -- With every weight 1 the weighted sheet is the plain sheet: of every book and every matching, refusals included
 pub ones-sheet : (b m : List ℕ) → weightedSheetFor b m (replicate (people b) 1) ≡ sheetFor b m
-ones-sheet b m = even-sheet b m (replicate (people b) 1) (λ f. even-ones (people b))
+ones-sheet b m = unit-sheet b m (replicate (people b) 1) (λ f. unit-ones (people b))
 
 -- of what is read: a book's bytes and n bytes for a matching, with n times 1 after them
 module _ (input : List ℕ) (whole : length input ≡ size (people input) + people input) where
@@ -101,4 +98,4 @@ module _ (input : List ℕ) (whole : length input ≡ size (people input) + peop
   unfolding sheetOf weightedSheetOf
   ones-input =
       rw (book-same, matching-same, weights-same)
-      (even-sheet (bookPart input) (matchingPart input) ones (λ f. rw book-people (even-ones n)))
+      (unit-sheet (bookPart input) (matchingPart input) ones (λ f. rw book-people (unit-ones n)))

@@ -1,7 +1,7 @@
 -- With every weight 1 the weighted replies are the plain ones; and they depend on one weight more than the largest n at
 -- most. Assumes nothing.
 use Prim.Native.Nat.{ℕ, _+_, _≤_, _<_}
-use mathlib.Core.Path.{_≡_, refl, ap}
+use mathlib.Core.Path.{_≡_, ap}
 use mathlib.Core.List.{List}
 use native.Mathlib.Omega.{arith}
 use lib.ListN.{length, take, replicate, length-replicate, length-take, getD-replicate}
@@ -9,8 +9,8 @@ use lib.Seq.{getD-take}
 use lib.IntN.{ℤ}
 use borrow.Author.Tests.{eq-eqb, ne-eqb}
 use Rattle.laws.specs.Choice.{same}
-use Rattle.format.specs.Verdict.{Verdict, fine, refused, andThen}
-use Rattle.format.specs.Laws.Verdict.{all-fine}
+use Rattle.format.specs.Verdict.{Verdict, fine, andThen}
+use Rattle.format.specs.Laws.Verdict.{then-same, then-none, all-fine}
 use Rattle.format.specs.Format.{largest, people}
 use Rattle.matchings.specs.Matching.{checkMatching}
 use Rattle.matchings.specs.Laws.StableCheck.{fine-stable}
@@ -21,47 +21,38 @@ use Rattle.repairs.specs.Grade.{gradeReply, weightedGrade}
 use Rattle.repairs.specs.Laws.Request.{weights-fine}
 use Rattle.repairs.specs.Laws.SameWeights.{reply-same, matching-same, gains-same, graded-same}
 
--- what follows a check that found nothing is all that counts
-pub then-same : (v : Verdict) {x y : Verdict} → (v ≡ fine → x ≡ y) → andThen v x ≡ andThen v y
-then-same fine e = e refl
-then-same (refused number place second) e = refl
-
-pub then-none : (v : Verdict) {x : Verdict} → (v ≡ fine → x ≡ fine) → andThen v x ≡ v
-then-none fine e = e refl
-then-none (refused number place second) e = refl
-
 -- k has n weights, each of them 1
-pub record Even (n : ℕ) (k : List ℕ) : Type 0 where
+pub record UnitWeights (n : ℕ) (k : List ℕ) : Type 0 where
   pub all : length k ≡ n
   pub one : (i : ℕ) → i < n → weightOf k i ≡ 1
 
-pub even-ones : (n : ℕ) → Even n (replicate n 1)
-even-ones n =
+pub unit-ones : (n : ℕ) → UnitWeights n (replicate n 1)
+unit-ones n =
     record { all = length-replicate {A = ℕ} n 1; one = λ i u. getD-replicate {A = ℕ} n i 1 0 u }
 
-module _ (b m k : List ℕ) (E : checkMatching b m ≡ fine → Even (people b) k) where
+module _ (b m k : List ℕ) (E : checkMatching b m ≡ fine → UnitWeights (people b) k) where
   -- nothing more is refused
-  pub even-weighed : checkWeighed b m k ≡ checkMatching b m
-  even-weighed = then-none (checkMatching b m) (λ f. weights-fine (people b) k (E f .all))
+  pub unit-weighed : checkWeighed b m k ≡ checkMatching b m
+  unit-weighed = then-none (checkMatching b m) (λ f. weights-fine (people b) k (E f .all))
 
-  even-request : (q : List ℕ) (room gainsRoom : ℕ) → checkWeightedRequest b m k q room gainsRoom ≡ checkRequest b m q room gainsRoom
-  even-request q room gainsRoom = ap (λ (v : Verdict). andThen v (checkAsked (people b) m q room gainsRoom)) even-weighed
+  unit-request : (q : List ℕ) (room gainsRoom : ℕ) → checkWeightedRequest b m k q room gainsRoom ≡ checkRequest b m q room gainsRoom
+  unit-request q room gainsRoom = ap (λ (v : Verdict). andThen v (checkAsked (people b) m q room gainsRoom)) unit-weighed
 
   agrees : (x : Verdict) → andThen (checkWeighed b m k) x ≡ fine → (i : ℕ) → i < people b → weightOf k i ≡ 1
   agrees x f = E (all-fine (checkMatching b m) _ (all-fine (checkWeighed b m k) x f .0) .0) .one
 
   -- so the replies are the same, and the buffers
-  pub even-reply : (q out : List ℕ) (gains : List ℤ) → weightedReply b m k q out gains ≡ repairReply b m q out gains
-  even-reply q out gains = reply-same b m q (even-request q (length out) (length gains)) (agrees _)
+  pub unit-reply : (q out : List ℕ) (gains : List ℤ) → weightedReply b m k q out gains ≡ repairReply b m q out gains
+  unit-reply q out gains = reply-same b m (unit-request q (length out) (length gains)) (agrees _) q
 
-  pub even-matching : (q out : List ℕ) (gains : List ℤ) → weightedMatching b m k q out gains ≡ repairMatching b m q out gains
-  even-matching q out gains = matching-same b m q out (even-request q (length out) (length gains)) (agrees _)
+  pub unit-matching : (q out : List ℕ) (gains : List ℤ) → weightedMatching b m k q out gains ≡ repairMatching b m q out gains
+  unit-matching q out gains = matching-same b m (unit-request q (length out) (length gains)) (agrees _) q out
 
-  pub even-gains : (q out : List ℕ) (gains : List ℤ) → weightedGains b m k q out gains ≡ repairGains b m q out gains
-  even-gains q out gains = gains-same b m q gains (even-request q (length out) (length gains)) (agrees _)
+  pub unit-gains : (q out : List ℕ) (gains : List ℤ) → weightedGains b m k q out gains ≡ repairGains b m q out gains
+  unit-gains q out gains = gains-same b m (unit-request q (length out) (length gains)) (agrees _) q gains
 
-  pub even-grade : weightedGrade b m k ≡ gradeReply b m
-  even-grade = graded-same b m even-weighed (λ f. E (all-fine (checkMatching b m) _ f .0) .one)
+  pub unit-grade : weightedGrade b m k ≡ gradeReply b m
+  unit-grade = graded-same b m unit-weighed (λ f. E (all-fine (checkMatching b m) _ f .0) .one)
 
 -- One weight more than the largest n shows that there are too many
 module _ (b m k : List ℕ) where
@@ -92,13 +83,13 @@ module _ (b m k : List ℕ) where
   read x f = cut-read (all-fine (checkWeighed b m cut) x f .0)
 
   pub cut-reply : (q out : List ℕ) (gains : List ℤ) → weightedReply b m cut q out gains ≡ weightedReply b m k q out gains
-  cut-reply q out gains = reply-same b m q (cut-request q (length out) (length gains)) (read _)
+  cut-reply q out gains = reply-same b m (cut-request q (length out) (length gains)) (read _) q
 
   pub cut-matching : (q out : List ℕ) (gains : List ℤ) → weightedMatching b m cut q out gains ≡ weightedMatching b m k q out gains
-  cut-matching q out gains = matching-same b m q out (cut-request q (length out) (length gains)) (read _)
+  cut-matching q out gains = matching-same b m (cut-request q (length out) (length gains)) (read _) q out
 
   pub cut-gains : (q out : List ℕ) (gains : List ℤ) → weightedGains b m cut q out gains ≡ weightedGains b m k q out gains
-  cut-gains q out gains = gains-same b m q gains (cut-request q (length out) (length gains)) (read _)
+  cut-gains q out gains = gains-same b m (cut-request q (length out) (length gains)) (read _) q gains
 
   pub cut-grade : weightedGrade b m cut ≡ weightedGrade b m k
   cut-grade = graded-same b m cut-weighed cut-read
