@@ -13,7 +13,7 @@ ghost use Rattle.repairs.specs.Grade.{gradeOutcome, gradeReply, weightedGrade};
 pub fn grade(book: &[u8], matching: &[u8]) -> Graded
     ensures { λ r. ⌜ gradeOutcome r ≡ gradeReply (now₀ book) (now₀ matching) ⌝ }
 {
-    let ones = [1usize; Instance::LARGEST];
+    let ones = [1u32; Instance::LARGEST];
     let all = &ones[..];
     let n = student_count(book);
     grade_by(book, matching, &all[..n], all)

@@ -20,12 +20,7 @@ ghost use Rattle.weights.specs.Weights.{WeightsGiven};
 
 // The grade of a matching of a book: the largest total of an answer, less the asking student's own weight, over the
 // pairs that are not fixed; or the first rule that is broken and where.
-pub(crate) fn grade_by(
-    book: &[u8],
-    matching: &[u8],
-    weights: &[usize],
-    wweights: &[usize],
-) -> Graded
+pub(crate) fn grade_by(book: &[u8], matching: &[u8], weights: &[u32], wweights: &[u32]) -> Graded
     requires { ⌜ WeightsGiven (now matching) (now weights) (now wweights) ⌝ }
     ensures { λ r. ⌜ gradeOutcome r ≡ weightedGrade (now₀ book) (now₀ matching) (now₀ weights) ⌝ }
 {
@@ -69,8 +64,8 @@ fn grade_with(
     wlists: &mut [u16],
     wranks: &mut [u16],
     matching: &[u8],
-    weights: &[usize],
-    wweights: &[usize],
+    weights: &[u32],
+    wweights: &[u32],
 ) -> Graded
     requires { ⌜ LongTables (now book) (now mlists) (now mranks) ⌝ }
     requires { ⌜ LongTables (now book) (now wlists) (now wranks) ⌝ }
@@ -102,8 +97,8 @@ fn grade_in<'a>(
     wlists: &'a [u16],
     wranks: &'a [u16],
     matching: &[u8],
-    weights: &[usize],
-    wweights: &[usize],
+    weights: &[u32],
+    wweights: &[u32],
 ) -> Graded
     ghost { Record }
     requires { λ R. ⌜ lent n mlists mranks wlists wranks ≡ R ⌝ }
@@ -118,7 +113,7 @@ fn grade_in<'a>(
         return ungraded(checked);
     };
     let mut letters = [0u8; Instance::LARGEST];
-    let mut distances = [0usize; Instance::LARGEST];
+    let mut distances = [0u32; Instance::LARGEST];
     let places = judged.places;
     let all = answer_pairs(
         n,

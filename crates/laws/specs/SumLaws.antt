@@ -53,9 +53,14 @@ sum-zero zero f e i u = absurd (omega arith)
 sum-zero (suc n) f e i u = same i n (λ q. rw q (omega arith)) (λ q. sum-zero n f (omega arith) i (omega arith))
 
 -- n terms of at most k
-pub sum-times : (n k : ℕ) (f : ℕ → ℕ) → ((i : ℕ) → i < n → f i ≤ k) → sum n f ≤ n * k
+sum-times : (n k : ℕ) (f : ℕ → ℕ) → ((i : ℕ) → i < n → f i ≤ k) → sum n f ≤ n * k
 sum-times zero k f h = omega arith
 sum-times (suc n) k f h = omega (arith, sum-times n k f (λ i u. h i (omega arith)), h n (omega arith), suc-mul n k)
+
+-- and so where only the terms at the numbers that pass a test are added
+pub sum-most : (n k : ℕ) (p : ℕ → Bool) (c : ℕ → ℕ) → ((i : ℕ) → i < n → c i ≤ k) → sum n (λ i. pick (p i) (c i) 0) ≤ n * k
+sum-most n k p c h =
+    sum-times n k (λ i. pick (p i) (c i) 0) (λ i u. tested (p i) (λ e. rw e (h i u)) (λ e. rw e (omega arith)))
 
 -- at most n numbers below n pass a test
 pub count-most : (n : ℕ) (p : ℕ → Bool) → count n p ≤ n

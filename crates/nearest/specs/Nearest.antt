@@ -62,12 +62,11 @@ vectorAfter p (D v) = v
 vectorAfter p F = p
 
 -- r says the answer a for the vector p
-pub record Shows (I : Market) (c p : ℕ → ℕ) (a : Answer) (r : Nearest) : Type 0 where
+pub record Shows (I : Market) (p : ℕ → ℕ) (a : Answer) (r : Nearest) : Type 0 where
   pub letter : r .letter ≡ letterOf a
-  pub distance : r .distance ≡ farOf I c p a
   pub places : (i : ℕ) → i < I .proposers .size → vec (r .men) i ≡ vectorAfter p a i
   pub long : length (r .men) ≡ largest
 
 -- r says the answer for the pair of man s of a stable matching of a record
 abbrev pub ShowsFor : Record → (ℕ → ℕ) → (ℕ → ℕ) → ℕ → Nearest → Type 0
-ShowsFor R c p s r = Shows (marketIn R) c p (answerOf (marketIn R) c p s) r
+ShowsFor R c p s r = Shows (marketIn R) p (answerOf (marketIn R) c p s) r

@@ -23,7 +23,7 @@ ghost use Rattle.nearest.specs.Nearest.{Given, BothWeighed, ShowsFor};
 
 // What a push leaves: how far the repair is that it found, and the two vectors.
 pub struct Vectors {
-    pub far: usize,
+    pub far: u32,
     pub proposers: [u16; Instance::LARGEST],
     pub receivers: [u16; Instance::LARGEST],
 }
@@ -38,9 +38,9 @@ pub fn pushed<'a>(
     p: [u16; Instance::LARGEST],
     t: [u16; Instance::LARGEST],
     was: &[u16],
-    weights: &[usize],
+    weights: &[u32],
     s: usize,
-    stop: usize,
+    stop: u32,
 ) -> Vectors
     ghost { Tables }
     requires { λ K. ⌜ tables n n plists rlists ranks ≡ K ⌝ }
@@ -81,8 +81,8 @@ pub fn nearest<'a>(
     wranks: &'a [u16],
     men: [u16; Instance::LARGEST],
     women: [u16; Instance::LARGEST],
-    weights: &[usize],
-    wweights: &[usize],
+    weights: &[u32],
+    wweights: &[u32],
     m: Man,
 ) -> Nearest
     ghost { Record }
@@ -123,21 +123,18 @@ pub fn nearest<'a>(
         let places = down.proposers;
         return Nearest {
             letter: Letter::Down,
-            distance: below,
             men: places,
         };
     }
     if NO_REPAIR <= above {
         return Nearest {
             letter: Letter::Fixed,
-            distance: 0,
             men,
         };
     }
     let places = up.receivers;
     Nearest {
         letter: Letter::Up,
-        distance: above,
         men: places,
     }
 }

@@ -31,10 +31,10 @@ pub fn answer_pairs<'a>(
     wlists: &'a [u16],
     wranks: &'a [u16],
     places: Places,
-    weights: &[usize],
-    wweights: &[usize],
+    weights: &[u32],
+    wweights: &[u32],
     letters: &mut [u8],
-    distances: &mut [usize],
+    distances: &mut [u32],
 ) -> Summary
     ghost { Record }
     requires { λ R. ⌜ lent n mlists mranks wlists wranks ≡ R ⌝ }
@@ -47,8 +47,8 @@ pub fn answer_pairs<'a>(
     let groups = group(n, mlists, mranks, wlists, wranks, men);
     let down = groups.down;
     let up = groups.up;
-    let mut above = [0usize; Instance::LARGEST];
-    let mut below = [0usize; Instance::LARGEST];
+    let mut above = [0u32; Instance::LARGEST];
+    let mut below = [0u32; Instance::LARGEST];
     measure(
         n,
         mlists,
@@ -66,7 +66,7 @@ pub fn answer_pairs<'a>(
     );
     fill_answers(n, &down, &up, &below, &above, letters, distances);
     Summary {
-        grade: grade_of(distances, weights, n),
+        grade: grade_of(distances, weights, n) as usize,
         rotations: groups.rotations,
     }
 }

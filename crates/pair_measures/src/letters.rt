@@ -6,7 +6,7 @@ ghost use Rattle.laws.specs.Moment.{vec₀, vec₁};
 ghost use Rattle.pair_measures.specs.Measured.{Fillable, Filled, filledLetter, filledDistance};
 
 // The letter of an answer: the nearer repair, up where both are as near, and F where there is none.
-fn letter(above: usize, below: usize) -> u8
+fn letter(above: u32, below: u32) -> u8
     ensures { λ r. ⌜ r ≡ filledLetter above below ⌝ }
 {
     if below < above {
@@ -19,7 +19,7 @@ fn letter(above: usize, below: usize) -> u8
 }
 
 // Its distance.
-fn far(above: usize, below: usize) -> usize
+fn far(above: u32, below: u32) -> u32
     ensures { λ r. ⌜ r ≡ filledDistance above below ⌝ }
 {
     if below < above {
@@ -36,10 +36,10 @@ pub fn fill_answers(
     n: usize,
     down: &[u16],
     up: &[u16],
-    below: &[usize],
-    above: &[usize],
+    below: &[u32],
+    above: &[u32],
     letters: &mut [u8],
-    distances: &mut [usize],
+    distances: &mut [u32],
 )
     requires { ⌜ Fillable n (now down) (now up) (now below) (now above) (now letters) (now distances) ⌝ }
     ensures { λ _. ⌜ Filled n (vec₀ down) (vec₀ up) (vec₀ below) (vec₀ above) n (vec₁ letters) (vec₁ distances) ⌝ }

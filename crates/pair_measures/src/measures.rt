@@ -22,7 +22,7 @@ ghost use Rattle.nearest.specs.Nearest.{Given, BothWeighed};
 ghost use Rattle.pair_measures.specs.Measured.{leadFar, Measured, Bounded, Boundable, Measurable, BothMeasured};
 
 // The distance that is measured for a man, from that of the one who answers for him; NO_REPAIR where nobody does.
-pub(crate) fn lead_far(n: usize, lead: u16, far: &[usize]) -> usize
+pub(crate) fn lead_far(n: usize, lead: u16, far: &[u32]) -> u32
     requires { ⌜ (n ≤ length (now far)) × (n < 65536) ⌝ }
     ensures { λ r. ⌜ r ≡ leadFar n lead (vec₀ far) ⌝ }
 {
@@ -39,10 +39,10 @@ fn measure_up<'a>(
     wranks: &'a [u16],
     men: [u16; Instance::LARGEST],
     women: [u16; Instance::LARGEST],
-    weights: &[usize],
-    wweights: &[usize],
+    weights: &[u32],
+    wweights: &[u32],
     up: &[u16],
-    above: &mut [usize],
+    above: &mut [u32],
 )
     ghost { Record }
     requires { λ R. ⌜ lent n mlists mranks wlists wranks ≡ R ⌝ }
@@ -75,7 +75,7 @@ fn measure_up<'a>(
 
 // For each man who answers for a group down, the largest distance of a repair up in it: a repair down that is no nearer
 // is the answer for nobody.
-fn bound_down(n: usize, down: &[u16], up: &[u16], above: &[usize], bound: &mut [usize])
+fn bound_down(n: usize, down: &[u16], up: &[u16], above: &[u32], bound: &mut [u32])
     requires { ⌜ Boundable n (now down) (now up) (now above) (now bound) ⌝ }
     ensures { λ _. ⌜ Bounded n (vec₀ down) (vec₀ up) (vec₀ above) n (vec₁ bound) ⌝ }
 {
@@ -101,10 +101,10 @@ fn measure_down<'a>(
     wranks: &'a [u16],
     men: [u16; Instance::LARGEST],
     women: [u16; Instance::LARGEST],
-    weights: &[usize],
+    weights: &[u32],
     down: &[u16],
-    bound: &[usize],
-    below: &mut [usize],
+    bound: &[u32],
+    below: &mut [u32],
 )
     ghost { Record }
     requires { λ R. ⌜ lent n mlists mranks wlists wranks ≡ R ⌝ }
@@ -145,12 +145,12 @@ pub fn measure<'a>(
     wranks: &'a [u16],
     men: [u16; Instance::LARGEST],
     women: [u16; Instance::LARGEST],
-    weights: &[usize],
-    wweights: &[usize],
+    weights: &[u32],
+    wweights: &[u32],
     down: &[u16],
     up: &[u16],
-    above: &mut [usize],
-    below: &mut [usize],
+    above: &mut [u32],
+    below: &mut [u32],
 )
     ghost { Record }
     requires { λ R. ⌜ lent n mlists mranks wlists wranks ≡ R ⌝ }
@@ -159,7 +159,7 @@ pub fn measure<'a>(
     requires { λ _. ⌜ Measurable n (now down) (now up) (now above) (now below) ⌝ }
     ensures { λ R _. ⌜ BothMeasured (marketIn R) (vec₀ weights) (vec men) n (vec₀ down) (vec₀ up) (vec₁ above) (vec₁ below) ⌝ }
 {
-    let mut bound = [0usize; Instance::LARGEST];
+    let mut bound = [0u32; Instance::LARGEST];
     measure_up(
         n,
         mlists,

@@ -71,7 +71,7 @@ fn push_to<'a>(
     p: &mut [u16],
     t: &mut [u16],
     was: &mut [u16],
-    weights: &[usize],
+    weights: &[u32],
     s: usize,
     goal: usize,
 )
@@ -113,7 +113,7 @@ pub(crate) fn least_past<'a>(
     let mut men = places.men;
     let mut women = places.women;
     let mut was = [0u16; Instance::LARGEST];
-    let weights = [1usize; Instance::LARGEST];
+    let weights = [1u32; Instance::LARGEST];
     push_to(
         n,
         n,

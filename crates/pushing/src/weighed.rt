@@ -31,7 +31,7 @@ fn at_place(p: &[u16], was: &[u16], c: usize) -> bool
 }
 
 // The weight of proposer c.
-fn weight_of(weights: &[usize], c: usize) -> usize
+fn weight_of(weights: &[u32], c: usize) -> u32
     requires { ⌜ c < length (now weights) ⌝ }
     ensures { λ r. ⌜ r ≡ vec₀ weights c ⌝ }
 {
@@ -53,21 +53,21 @@ pub fn push_weight<'a>(
     p: &mut [u16],
     t: &mut [u16],
     was: &[u16],
-    weights: &[usize],
+    weights: &[u32],
     s: usize,
-    stop: usize,
-) -> usize
+    stop: u32,
+) -> u32
     ghost { Tables }
     requires { λ K. ⌜ tables a b plists rlists ranks ≡ K ⌝ }
     requires { λ K. ⌜ Sound K ⌝ }
     requires { λ _. ⌜ Sized a b (now p) (now t) × (now was ≡ now p) ⌝ }
     requires { λ K. ⌜ Pushable (market K) (vec (now p)) (vec (now t)) s ⌝ }
-    requires { λ _. ⌜ Weighed a (now weights) × (stop < 4294967296) ⌝ }
+    requires { λ _. ⌜ Weighed a (now weights) × (stop < 2147483648) ⌝ }
     ensures { λ K r. ⌜ PushWeighed (market K) (vec₀ weights) (vec₀ p) s stop r ⌝ }
     ensures { λ K r. ⌜ (r < stop → PushedTo (market K) (vec₀ p) s (vec₁ p) (vec₁ t)) ⌝ }
 {
     let goal = receiver_of(a, b, plists, p, s);
-    let mut total = 0;
+    let mut total = 0u32;
     let mut cur = s;
     let mut rest = rest_after(a, b, plists, p, cur);
     while rest.next < rest.end {
@@ -111,7 +111,7 @@ pub fn push<'a>(
     p: &mut [u16],
     t: &mut [u16],
     was: &[u16],
-    weights: &[usize],
+    weights: &[u32],
     s: usize,
 ) -> bool
     ghost { Tables }
@@ -122,6 +122,6 @@ pub fn push<'a>(
     requires { λ _. ⌜ Weighed a (now weights) × (a < 65536) ⌝ }
     ensures { λ K r. ⌜ Pushed (market K) (vec₀ p) s (vec₁ p) (vec₁ t) r ⌝ }
 {
-    let most = a * 255;
+    let most = a as u32 * 255;
     push_weight(a, b, plists, rlists, ranks, p, t, was, weights, s, most + 1) <= most
 }

@@ -23,7 +23,7 @@ pub fn repair(
     ensures bytes { λ _. ⌜ now₁ out ≡ repairMatching (now₀ book) (now₀ matching) (now₀ request) (now₀ out) (now₀ gains) ⌝ }
     ensures places { λ _. ⌜ now₁ gains ≡ repairGains (now₀ book) (now₀ matching) (now₀ request) (now₀ out) (now₀ gains) ⌝ }
 {
-    let ones = [1usize; Instance::LARGEST];
+    let ones = [1u32; Instance::LARGEST];
     let all = &ones[..];
     let n = student_count(book);
     repair_by(book, matching, &all[..n], all, request, out, gains)

@@ -33,8 +33,8 @@ ghost use Rattle.repair.specs.Repaired.{Repairs};
 pub(crate) fn repair_by(
     book: &[u8],
     matching: &[u8],
-    weights: &[usize],
-    wweights: &[usize],
+    weights: &[u32],
+    wweights: &[u32],
     request: &[u8],
     out: &mut [u8],
     gains: &mut [i8],
@@ -93,8 +93,8 @@ fn repair_with(
     wlists: &mut [u16],
     wranks: &mut [u16],
     matching: &[u8],
-    weights: &[usize],
-    wweights: &[usize],
+    weights: &[u32],
+    wweights: &[u32],
     request: &[u8],
     out: &mut [u8],
     gains: &mut [i8],
@@ -138,8 +138,8 @@ fn repair_in<'a>(
     wlists: &'a [u16],
     wranks: &'a [u16],
     matching: &[u8],
-    weights: &[usize],
-    wweights: &[usize],
+    weights: &[u32],
+    wweights: &[u32],
     request: &[u8],
     out: &mut [u8],
     gains: &mut [i8],
@@ -183,7 +183,7 @@ fn repair_in<'a>(
         wweights,
         asking,
     );
-    repair_answer::answer(n, mlists, men, found, out, gains)
+    repair_answer::answer(n, mlists, men, weights, found, out, gains)
 }
 
 // A refusal as the answer for a pair; where nothing is refused, fixed.

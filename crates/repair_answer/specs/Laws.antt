@@ -1,2 +1,3 @@
 -- Laws of what is written. Assumes nothing.
 pub mod Small
+pub mod Moved

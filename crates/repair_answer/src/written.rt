@@ -1,5 +1,5 @@
 // The answer for the nearest repair, with the two result buffers.
-use crate::gains::write_gains;
+use crate::moves::moves;
 use extremes::write_matching;
 use format::Instance;
 use nearest::Letter;
@@ -7,14 +7,40 @@ use nearest::Nearest;
 use repairs::Answer;
 use repairs::Repair;
 ghost use mathlib.Core.Path.{_≡_};
+ghost use mathlib.Core.List.{_++_};
 ghost use Prim.Native.Nat.{_≤_};
-ghost use lib.ListN.{length};
-ghost use Rattle.laws.specs.Moment.{now₀, now₁};
+ghost use lib.ListN.{length, drop};
+ghost use Rattle.laws.specs.Moment.{now₀, now₁, vec₀};
 ghost use Rattle.laws.specs.Values.{vec};
 ghost use Rattle.format.specs.Outcome.{gives};
 ghost use Rattle.extremes.specs.Places.{MatchingWritable, womenAt};
 ghost use Rattle.repairs.specs.Repair.{repairOutcome};
-ghost use Rattle.repair_answer.specs.Shown.{Small, gainsAt, shownAnswer, shownIn};
+ghost use Rattle.pushing.specs.Push.{Weighed};
+ghost use Rattle.repair_answer.specs.Shown.{Small, movedAt, gainsAt, shownAnswer, shownIn};
+
+// Writes the repair with the places `places`: its matching, and what each man gains from `men`. Its distance is the
+// total weight of those who are moved.
+fn write_repair(
+    n: usize,
+    mlists: &[u16],
+    men: &[u16],
+    weights: &[u32],
+    places: &[u16],
+    out: &mut [u8],
+    gains: &mut [i8],
+) -> Repair
+    requires { ⌜ MatchingWritable n (now mlists) (now places) (now out) ⌝ }
+    requires { ⌜ Small n (now men) × Weighed n (now weights) × (n ≤ length (now gains)) ⌝ }
+    ensures distance { λ r. ⌜ r .distance ≡ movedAt n (vec₀ weights) (vec₀ men) (vec₀ places) ⌝ }
+    ensures bytes { λ _. ⌜ now₁ out ≡ womenAt n (now₀ mlists) (vec₀ places) ++ drop n (now₀ out) ⌝ }
+    ensures places { λ _. ⌜ now₁ gains ≡ gainsAt n (vec₀ men) (vec₀ places) ++ drop n (now₀ gains) ⌝ }
+{
+    write_matching(n, mlists, places, out);
+    let moved = moves(n, men, places, weights, gains);
+    Repair {
+        distance: moved.total,
+    }
+}
 
 // The answer for the nearest repair: its matching and the places gained from `men` are written, unless the pair is
 // fixed.
@@ -22,30 +48,23 @@ pub fn answer(
     n: usize,
     mlists: &[u16],
     men: [u16; Instance::LARGEST],
+    weights: &[u32],
     found: Nearest,
     out: &mut [u8],
     gains: &mut [i8],
 ) -> Answer
     requires { ⌜ MatchingWritable n (now mlists) (found .men) (now out) ⌝ }
-    requires { ⌜ Small n men × (n ≤ length (now gains)) ⌝ }
-    ensures reply { λ r. ⌜ repairOutcome r ≡ gives (shownAnswer (found .letter) (found .distance)) ⌝ }
+    requires { ⌜ Small n men × Weighed n (now weights) × (n ≤ length (now gains)) ⌝ }
+    ensures reply { λ r. ⌜ repairOutcome r ≡ gives (shownAnswer (found .letter)
+        (movedAt n (vec₀ weights) (vec men) (vec (found .men)))) ⌝ }
     ensures bytes { λ _. ⌜ now₁ out ≡ shownIn (found .letter) n (womenAt n (now₀ mlists) (vec (found .men))) (now₀ out) ⌝ }
     ensures places { λ _. ⌜ now₁ gains ≡ shownIn (found .letter) n (gainsAt n (vec men) (vec (found .men))) (now₀ gains) ⌝ }
 {
     let letter = found.letter;
-    let distance = found.distance;
     let places = found.men;
     match letter {
-        Letter::Up => {
-            write_matching(n, mlists, &places, out);
-            write_gains(n, &men, &places, gains);
-            Answer::Up(Repair { distance })
-        }
-        Letter::Down => {
-            write_matching(n, mlists, &places, out);
-            write_gains(n, &men, &places, gains);
-            Answer::Down(Repair { distance })
-        }
+        Letter::Up => Answer::Up(write_repair(n, mlists, &men, weights, &places, out, gains)),
+        Letter::Down => Answer::Down(write_repair(n, mlists, &men, weights, &places, out, gains)),
         Letter::Fixed => Answer::Fixed,
     }
 }

@@ -13,9 +13,9 @@ use Rattle.format.specs.Format.{people}
 use Rattle.matchings.specs.Matching.{checkMatching}
 use Rattle.repairs.specs.Repair.{RepairAnswer, fixed, repairReply, repairMatching, repairGains}
 use Rattle.repairs.specs.Grade.{gradeReply}
-use Rattle.repairs.specs.Promise.{pairOf, written, InEvery, RepairUp, RepairDown, Takes, Lightest, Gained, Covers, AnswerIs, LargestLessOwn}
+use Rattle.repairs.specs.Promise.{pairOf, written, InEvery, RepairUp, RepairDown, Takes, Lightest, Gained, nonzeroCount, Covers, AnswerIs, ReportedDistance, LargestLessOwn}
 use Rattle.repairs.specs.Laws.Request.{request-fine}
-use Rattle.repairs.specs.Laws.Demand3.{fixed-iff, takes, gains-are, answered, reply-given}
+use Rattle.repairs.specs.Laws.Demand3.{fixed-iff, takes, gains-are, answered, distance-is, reply-given}
 use Rattle.repairs.specs.Laws.OneRepair.{one-up, one-down, one-taken, only-one}
 use Rattle.repairs.specs.Laws.GradeBytes.{grade-is}
 use Rattle.repairs.specs.Laws.GradeSentence.{grade-largest}
@@ -40,6 +40,14 @@ module _ (b m : List ℕ) (s : ℕ) (out : List ℕ) (gains : List ℤ)
   pub places-gained :
       (InEvery b m s → ⊥) → Gained b m (written b (repairMatching b m (pairOf m s) out gains)) (repairGains b m (pairOf m s) out gains)
   places-gained = gains-are b (λ i. 1) m s stable student (request-fine b m s stable student room gains-room) out gains
+
+  -- the number of students moved that is reported is the number of gains that are not 0
+  pub moved-counted :
+      (InEvery b m s → ⊥) →
+      ReportedDistance (people b) (repairReply b m (pairOf m s)) (nonzeroCount (people b) (repairGains b m (pairOf m s) out gains))
+  moved-counted =
+      distance-is b (λ i. 1) m s stable student (request-fine b m s stable student room gains-room)
+      (λ o g h k. request-fine b m s stable student h k) gains
 
   -- nothing else meets the demand: a reply x and a matching r that do are these
   pub nothing-else :

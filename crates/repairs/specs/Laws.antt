@@ -3,6 +3,7 @@ pub mod Bytes
 pub mod RepairBytes
 pub mod AnswerBytes
 pub mod GainBytes
+pub mod MovedGains
 pub mod Request
 pub mod Demand3
 pub mod OneRepair

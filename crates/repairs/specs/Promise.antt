@@ -4,13 +4,13 @@
 use Prim.Native.Nat.{ℕ, _-_, _≤_, _<_}
 use mathlib.Core.Path.{_≡_}
 use mathlib.Core.List.{List}
-use mathlib.Core.Bool.{not}
+use mathlib.Core.Bool.{Bool, not}
 use mathlib.Core.Logic.{_↔_}
 use lib.ListN.{length, take, getD}
 use lib.Dec.{eqb}
 use lib.IntN.{ℤ, pos, natAbs}
 use Rattle.laws.specs.Choice.{pick, both}
-use Rattle.laws.specs.Sum.{sum}
+use Rattle.laws.specs.Sum.{sum, count}
 use Rattle.laws.specs.Difference.{less}
 use Rattle.format.specs.Verdict.{fine}
 use Rattle.format.specs.Outcome.{Outcome, gives}
@@ -81,6 +81,18 @@ pub record Gained (b m r : List ℕ) (gains : List ℤ) : Type 0 where
   pub is : (i : ℕ) → i < people b → getD gains i (pos 0) ≡ less (manRank b i (womanOf m i)) (manRank b i (womanOf r i))
   pub zero : (i : ℕ) → i < people b → getD gains i (pos 0) ≡ pos 0 ↔ womanOf r i ≡ womanOf m i
   pub small : (i : ℕ) → i < people b → natAbs (getD gains i (pos 0)) ≤ largest - 1
+
+-- The gain of student i is not 0
+abbrev pub notZero : List ℤ → ℕ → Bool
+notZero gains i = not (eqb (natAbs (getD gains i (pos 0))) 0)
+
+-- How many of the first n gains are not 0
+abbrev pub nonzeroCount : ℕ → List ℤ → ℕ
+nonzeroCount n gains = count n (notZero gains)
+
+-- and the total weight of the students whose gains those are
+abbrev pub nonzeroWeight : ℕ → (ℕ → ℕ) → List ℤ → ℕ
+nonzeroWeight n c gains = sum n (λ i. pick (notZero gains i) (c i) 0)
 
 -- The total weight of the students besides s whom the matching k moves
 abbrev pub movedBesides : ℕ → (ℕ → ℕ) → List ℕ → List ℕ → ℕ → ℕ

@@ -14,9 +14,9 @@ use Rattle.matchings.specs.Matching.{checkMatching}
 use Rattle.repairs.specs.Weights.{weightOf}
 use Rattle.repairs.specs.Repair.{RepairAnswer, fixed, repairReply, repairMatching, repairGains, weightedReply, weightedMatching, weightedGains}
 use Rattle.repairs.specs.Grade.{gradeReply, weightedGrade}
-use Rattle.repairs.specs.Promise.{pairOf, written, InEvery, Takes, Lightest, Gained, Covers, AnswerIs, LargestLessOwn}
+use Rattle.repairs.specs.Promise.{pairOf, written, InEvery, Takes, Lightest, Gained, nonzeroWeight, Covers, AnswerIs, ReportedDistance, LargestLessOwn}
 use Rattle.repairs.specs.Laws.Request.{weighed-fine, weighted-fine}
-use Rattle.repairs.specs.Laws.Demand3.{fixed-iff, takes, gains-are, answered, reply-given}
+use Rattle.repairs.specs.Laws.Demand3.{fixed-iff, takes, gains-are, answered, distance-is, reply-given}
 use Rattle.repairs.specs.Laws.OneRepair.{only-one}
 use Rattle.repairs.specs.Laws.GradeBytes.{grade-is}
 use Rattle.repairs.specs.Laws.GradeSentence.{grade-largest}
@@ -43,6 +43,15 @@ module _ (b m k : List ℕ) (s : ℕ) (out : List ℕ) (gains : List ℤ)
   pub places-gained :
       (InEvery b m s → ⊥) → Gained b m (written b (weightedMatching b m k (pairOf m s) out gains)) (weightedGains b m k (pairOf m s) out gains)
   places-gained = gains-are b (weightOf k) m s stable student (weighted-fine b m k s stable all student room gains-room) out gains
+
+  -- the total that is reported is that of the students whose gains are not 0
+  pub moved-weighed :
+      (InEvery b m s → ⊥) →
+      ReportedDistance (people b) (weightedReply b m k (pairOf m s))
+      (nonzeroWeight (people b) (weightOf k) (weightedGains b m k (pairOf m s) out gains))
+  moved-weighed =
+      distance-is b (weightOf k) m s stable student (weighted-fine b m k s stable all student room gains-room)
+      (λ o g h l. weighted-fine b m k s stable all student h l) gains
 
   -- nothing else meets the demand: a reply x and a matching r that do are these
   pub nothing-else :

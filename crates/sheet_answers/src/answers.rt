@@ -23,8 +23,8 @@ pub fn put_answers<'a>(
     wlists: &'a [u16],
     wranks: &'a [u16],
     places: Places,
-    weights: &[usize],
-    wweights: &[usize],
+    weights: &[u32],
+    wweights: &[u32],
     matching: &[u8],
     text: &mut [u8],
 ) -> usize
@@ -35,7 +35,7 @@ pub fn put_answers<'a>(
     ensures { λ R r. ⌜ Put (now₀ text) 0 (sheetOver R (vec₀ weights) places (now₀ matching)) (now₁ text) r ⌝ }
 {
     let mut letters = [0u8; Instance::LARGEST];
-    let mut distances = [0usize; Instance::LARGEST];
+    let mut distances = [0u32; Instance::LARGEST];
     let all = answer_pairs(
         n,
         mlists,

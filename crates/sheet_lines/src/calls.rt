@@ -62,7 +62,7 @@ fn put_plain(input: &[u8], text: &mut [u8]) -> usize
 {
     let end = book_end(input);
     let book = &input[..end];
-    let ones = [1usize; Instance::LARGEST];
+    let ones = [1u32; Instance::LARGEST];
     let all = &ones[..];
     let n = student_count(book);
     put_sheet(book, &input[end..], &all[..n], all, text)

@@ -22,8 +22,8 @@ ghost use Rattle.sheet_lines.specs.Room.{Room};
 pub(crate) fn put_sheet(
     book: &[u8],
     matching: &[u8],
-    weights: &[usize],
-    wweights: &[usize],
+    weights: &[u32],
+    wweights: &[u32],
     text: &mut [u8],
 ) -> usize
     requires { ⌜ WeightsGiven (now matching) (now weights) (now wweights) × Room (now weights) (now text) ⌝ }
@@ -71,8 +71,8 @@ fn put_with(
     wlists: &mut [u16],
     wranks: &mut [u16],
     matching: &[u8],
-    weights: &[usize],
-    wweights: &[usize],
+    weights: &[u32],
+    wweights: &[u32],
     text: &mut [u8],
 ) -> usize
     requires { ⌜ LongTables (now book) (now mlists) (now mranks) ⌝ }
@@ -107,8 +107,8 @@ fn put_judged<'a>(
     wlists: &'a [u16],
     wranks: &'a [u16],
     matching: &[u8],
-    weights: &[usize],
-    wweights: &[usize],
+    weights: &[u32],
+    wweights: &[u32],
     text: &mut [u8],
 ) -> usize
     ghost { Record }

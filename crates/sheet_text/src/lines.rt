@@ -28,7 +28,7 @@ pub fn put_top(out: &mut [u8], at: usize, n: usize, rotations: usize, grade: usi
 }
 
 // The line of a pair: man, woman, letter, distance.
-fn put_pair(out: &mut [u8], at: usize, man: Man, woman: Woman, letter: u8, distance: usize) -> usize
+fn put_pair(out: &mut [u8], at: usize, man: Man, woman: Woman, letter: u8, distance: u32) -> usize
     requires { ⌜ (at + length (pairLine (man .0) (woman .0) letter distance) ≤ length (now out)) × FiveDigits distance ⌝ }
     ensures { λ r. ⌜ Put (now₀ out) at (pairLine (man .0) (woman .0) letter distance) (now₁ out) r ⌝ }
 {
@@ -38,7 +38,7 @@ fn put_pair(out: &mut [u8], at: usize, man: Man, woman: Woman, letter: u8, dista
     let third = put_field(out, second, w, b' ');
     let after = put_byte(out, third, letter);
     let fourth = put_byte(out, after, b' ');
-    put_field(out, fourth, distance, b'\n')
+    put_field(out, fourth, distance as usize, b'\n')
 }
 
 // The lines of the pairs of n men.
@@ -48,7 +48,7 @@ pub fn put_pairs(
     n: usize,
     matching: &[u8],
     letters: &[u8],
-    distances: &[usize],
+    distances: &[u32],
 ) -> usize
     requires { ⌜ PairsGiven n (now matching) (now letters) (now distances) ⌝ }
     requires { ⌜ at + length (pairLines (entryIn (now matching)) (vec (now letters)) (vec (now distances)) n) ≤ length (now out) ⌝ }

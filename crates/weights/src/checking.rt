@@ -12,7 +12,7 @@ ghost use Rattle.format.specs.Verdict.{verdictOf, andThen};
 ghost use Rattle.repairs.specs.Weights.{checkWeights};
 
 // Rule 17 after a check that refused nothing: there are n weights.
-pub fn check_weights(checked: Checked, n: usize, weights: &[usize]) -> Checked
+pub fn check_weights(checked: Checked, n: usize, weights: &[u32]) -> Checked
     ensures { λ r. ⌜ verdictOf r ≡ andThen (verdictOf checked) (checkWeights n (now₀ weights)) ⌝ }
 {
     let Checked::Fine = checked else {

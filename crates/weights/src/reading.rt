@@ -5,7 +5,7 @@ use book::woman_of;
 use format::Instance;
 use format::Man;
 ghost use mathlib.Core.Path.{_≡_};
-ghost use Prim.Native.Nat.{_+_, _≤_, min};
+ghost use Prim.Native.Nat.{_+_, _≤_, _<_, min};
 ghost use lib.ListN.{length, take};
 ghost use Rattle.laws.specs.Moment.{now₀};
 ghost use Rattle.format.specs.Format.{largest};
@@ -16,8 +16,8 @@ ghost use Rattle.weights.specs.Weights.{WeightsGiven, MenWeighed, WomenW
 // there is none.
 pub struct Weights {
     pub count: usize,
-    pub men: [usize; Instance::LARGEST + 1],
-    pub women: [usize; Instance::LARGEST],
+    pub men: [u32; Instance::LARGEST + 1],
+    pub women: [u32; Instance::LARGEST],
 }
 
 // The lesser of two numbers.
@@ -27,15 +27,22 @@ pub fn least(a: usize, b: usize) -> usize
     if a < b { a } else { b }
 }
 
+// A weight as a number.
+fn weight(x: u8) -> u32
+    ensures { λ r. ⌜ (r ≡ x) × (r < 256) ⌝ }
+{
+    x as u32
+}
+
 // The first `count` weights as numbers.
-fn weigh_men(weights: &[u8], count: usize) -> [usize; Instance::LARGEST + 1]
+fn weigh_men(weights: &[u8], count: usize) -> [u32; Instance::LARGEST + 1]
     requires { ⌜ (count ≤ length (now weights)) × (count ≤ largest + 1) ⌝ }
     ensures { λ r. ⌜ MenWeighed (now₀ weights) count r ⌝ }
 {
-    let mut men = [0usize; Instance::LARGEST + 1];
+    let mut men = [0u32; Instance::LARGEST + 1];
     let mut i = 0;
     while i < count {
-        men[i] = wide(weights[i]);
+        men[i] = weight(weights[i]);
         i += 1;
     }
     men
@@ -44,13 +51,13 @@ fn weigh_men(weights: &[u8], count: usize) -> [usize; Instance::LARGEST + 1]
 // Of each woman the weight of her man, among the first n men.
 fn weigh_women(
     matching: &[u8],
-    men: &[usize; Instance::LARGEST + 1],
+    men: &[u32; Instance::LARGEST + 1],
     n: usize,
-) -> [usize; Instance::LARGEST]
+) -> [u32; Instance::LARGEST]
     requires { ⌜ (n ≤ length (now matching)) × (n ≤ largest) ⌝ }
     ensures { λ r. ⌜ WomenWeighed (now₀ matching) (now₀ men) n n r ⌝ }
 {
-    let mut women = [0usize; Instance::LARGEST];
+    let mut women = [0u32; Instance::LARGEST];
     let mut man = Man(0);
     while wide(man.0) < n {
         let i = wide(man.0);

@@ -100,7 +100,7 @@ module _ {b m : List ℕ} {R : Record} {j : Judged} (J : BookJudged b m R j) (f 
   far-book c {s} u = far-same c (vec (j .places .men)) (answer-book c u) ∙ far-alike judged-alike c judged-men (answerFor b c m s)
 
   -- and what the search says
-  pub shows-book : (c : ℕ → ℕ) {s : ℕ} {r : Nearest} → s < R .n → ShowsFor R c (vec (j .places .men)) s r → Shows (market b) c (vectorOf b m) (answerFor b c m s) r
+  pub shows-book : (c : ℕ → ℕ) {s : ℕ} {r : Nearest} → s < R .n → ShowsFor R c (vec (j .places .men)) s r → Shows (market b) (vectorOf b m) (answerFor b c m s) r
   shows-book c {s} u S = shows-alike judged-alike judged-men (answerFor b c m s) (shows-same (answer-book c u) S)
 
   -- and the largest cost over the record is the grade

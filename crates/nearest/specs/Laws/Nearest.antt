@@ -13,10 +13,8 @@ use Rattle.stable_theory.specs.Stable.Holding.{Same, hold-at}
 use Rattle.stable_theory.specs.Stable.Alike.{Alike}
 use Rattle.stable_theory.specs.Stable.Mirror.{mirror-back, stable-across}
 use Rattle.stable_theory.specs.Repairs.Repair.{IsUp, weight}
-use Rattle.stable_theory.specs.Repairs.Moves.{weight-same}
 use Rattle.stable_theory.specs.Repairs.Answer.{Answer, U, D, F, answerOf, Answers, SameAnswer, same-up, same-down, same-fixed}
 use Rattle.stable_theory.specs.Repairs.AnswerLaws.{answer-of, answer-unique}
-use Rattle.stable_theory.specs.Repairs.AnswerAlike.{weight-alike}
 use Rattle.tables.specs.Lists.{atIn}
 use Rattle.tables.specs.Laws.Rows.{stored-index}
 use Rattle.format.specs.Record.{Record}
@@ -30,23 +28,20 @@ use Rattle.nearest.specs.Laws.Tried.{distant-down, repair-up, distance-u
 use Rattle.nearest.specs.Nearest.{Given, BothWeighed, Shows}
 
 -- the same answer, said so too
-pub shows-same : {I : Market} {c p : ℕ → ℕ} {a b : Answer} {r : Nearest} → SameAnswer I a b → Shows I c p a r → Shows I c p b r
-shows-same {I} {c} {p} (same-up {u} {v} e) K =
-    record { letter = K .letter; distance = K .distance ∙ weight-same I c p u v e; places = λ i l. K .places i l ∙ e i l; long = K .long }
-shows-same {I} {c} {p} (same-down {u} {v} e) K =
-    record { letter = K .letter; distance = K .distance ∙ weight-same I c p u v e; places = λ i l. K .places i l ∙ e i l; long = K .long }
+pub shows-same : {I : Market} {p : ℕ → ℕ} {a b : Answer} {r : Nearest} → SameAnswer I a b → Shows I p a r → Shows I p b r
+shows-same (same-up e) K = record { letter = K .letter; places = λ i l. K .places i l ∙ e i l; long = K .long }
+shows-same (same-down e) K = record { letter = K .letter; places = λ i l. K .places i l ∙ e i l; long = K .long }
 shows-same same-fixed K = K
 
 -- and in a market that is alike, of vectors that agree
-pub shows-alike : {I J : Market} (A : Alike I J) {c p q : ℕ → ℕ} (e : Same I p q) (a : Answer) {r : Nearest} → Shows I c p a r → Shows J c q a r
-shows-alike A {c} e (U v) K =
-    record { letter = K .letter; distance = K .distance ∙ weight-alike A e c v v (λ i l. refl); places = λ i l. K .places i (omega (arith, A .proposing .size)); long = K .long }
-shows-alike A {c} e (D v) K =
-    record { letter = K .letter; distance = K .distance ∙ weight-alike A e c v v (λ i l. refl); places = λ i l. K .places i (omega (arith, A .proposing .size)); long = K .long }
+pub shows-alike : {I J : Market} (A : Alike I J) {p q : ℕ → ℕ} (e : Same I p q) (a : Answer) {r : Nearest} → Shows I p a r → Shows J q a r
+shows-alike A e (U v) K =
+    record { letter = K .letter; places = λ i l. K .places i (omega (arith, A .proposing .size)); long = K .long }
+shows-alike A e (D v) K =
+    record { letter = K .letter; places = λ i l. K .places i (omega (arith, A .proposing .size)); long = K .long }
 shows-alike {I} A e F K =
     record {
       letter = K .letter;
-      distance = K .distance;
       places = λ i l. let u : i < I .proposers .size = omega (arith, A .proposing .size) in K .places i u ∙ e i u;
       long = K .long;
     }
@@ -107,21 +102,21 @@ module _ {R : Record} {men women : List ℕ} (G : Given R men women) {s : ℕ} (
       module _ {d t v x : ℕ → ℕ} {above below : ℕ} (T : Tries (exchange I) (vec wweights) (vec women) w noRepair v x above) (A : Tries I c (vec men) s above d t below) where
         -- the three answers of the code
         pub says-down : {places : List ℕ} → ((i : ℕ) → i < n → vec places i ≡ d i) → length places ≡ largest → below < above →
-            Shows I c (vec men) (answerOf I c (vec men) s) (record { letter = Down; distance = below; men = places })
+            Shows I (vec men) (answerOf I c (vec men) s) (record { letter = Down; men = places })
         says-down e h l =
             shows-same (right (answers-down most (up-distant T) (distant-down A) (omega arith) (A .repair l) (A .distance l) l))
-            (record { letter = refl; distance = A .distance l; places = e; long = h })
+            (record { letter = refl; places = e; long = h })
 
         pub says-fixed : length men ≡ largest → above ≤ below → noRepair ≤ above →
-            Shows I c (vec men) (answerOf I c (vec men) s) (record { letter = Fixed; distance = 0; men = men })
+            Shows I (vec men) (answerOf I c (vec men) s) (record { letter = Fixed; men = men })
         says-fixed h l f =
             shows-same (right (answers-fixed most (up-distant T) (distant-down A) (omega arith) l f))
-            (record { letter = refl; distance = refl; places = λ i v. refl; long = h })
+            (record { letter = refl; places = λ i v. refl; long = h })
 
         pub says-up : {places : List ℕ} → ((i : ℕ) → i < n → vec places i ≡ x i) → length places ≡ largest → above ≤ below → above < noRepair →
-            Shows I c (vec men) (answerOf I c (vec men) s) (record { letter = Up; distance = above; men = places })
+            Shows I (vec men) (answerOf I c (vec men) s) (record { letter = Up; men = places })
         says-up e h l g =
             let X = repair-up (G .by-men .proper) (G .stable) (G .mirror) hold (B .both) T g in
             let q = distance-up (G .by-men .proper) (G .stable) (G .mirror) hold (B .both) T g in
             shows-same (right (answers-up most (up-distant T) (distant-down A) (omega arith) X q l))
-            (record { letter = refl; distance = q; places = e; long = h })
+            (record { letter = refl; places = e; long = h })

@@ -5,8 +5,7 @@ use mathlib.Core.Bool.{true}
 use native.Mathlib.Omega.{arith}
 use lib.Dec.{leb}
 use borrow.Author.Tests.{leb-true, leb-false}
-use Rattle.laws.specs.Choice.{pick, tested}
-use Rattle.laws.specs.SumLaws.{sum-times}
+use Rattle.laws.specs.SumLaws.{sum-most}
 use Rattle.stable_theory.specs.Stable.Market.{Market, Proper}
 use Rattle.stable_theory.specs.Stable.Vector.{Within}
 use Rattle.stable_theory.specs.Stable.Holding.{stable-same}
@@ -77,9 +76,7 @@ module _ {I : Market} (M : Proper I) (c : ℕ → ℕ) {f : ℕ → ℕ} {s : �
 -- a total is at most 255 for each proposer, where each weighs at most so much
 pub weight-most : (I : Market) (c p k : ℕ → ℕ) → ((i : ℕ) → i < I .proposers .size → c i ≤ 255) → weight I c p k ≤ I .proposers .size * 255
 unfolding weight
-weight-most I c p k light =
-    sum-times (I .proposers .size) 255 (λ i. pick (moved p k i) (c i) 0)
-    (λ i u. tested (moved p k i) (λ e. rw e (light i u)) (λ e. rw e (omega arith)))
+weight-most I c p k light = sum-most (I .proposers .size) 255 (moved p k) c light
 
 -- the answer where the bound is past every total
 module _ {I : Market} (M : Proper I) {c p t : ℕ → ℕ} {s : ℕ} (P : Pushable I p t s) (light : (i : ℕ) → i < I .proposers .size → c i ≤ 255) where

@@ -31,7 +31,7 @@ use Rattle.nearest.specs.declared.answer.Nearest.{Nearest}
 use Rattle.nearest.specs.Nearest.{Shows, ShowsFor}
 use Rattle.nearest.specs.Laws.Weighed.{Allowed}
 use Rattle.nearest.specs.Laws.Book.{judged-formed, judged-number, judged-usable, judged-given, shows-book}
-use Rattle.repair_answer.specs.Shown.{Small, gainsAt, shownAnswer, shownIn}
+use Rattle.repair_answer.specs.Shown.{Small, movedAt, gainsAt, shownAnswer, shownIn}
 use Rattle.repair.specs.Repaired.{Repaired}
 use Rattle.repair.specs.Laws.Shown.{places-stable, after-stable, says-answer, says-bytes, says-gains}
 
@@ -89,7 +89,7 @@ module _ {b m k : List ℕ} {R : Record} {j : Judged} (A : Allowed b m k R j) wh
         answer-of (market-proper (judged-formed J f)) (weightOf k) (fine-vector b m f)
         (holds (fine-stable b m .0 f) (omega (arith, judged-number J f)))
 
-    found : Shows (market b) (weightOf k) (vectorOf b m) (answerFor b (weightOf k) m s) r
+    found : Shows (market b) (vectorOf b m) (answerFor b (weightOf k) m s) r
     found = shows-book J f (weightOf k) u S
 
     -- which can be written
@@ -100,7 +100,7 @@ module _ {b m k : List ℕ} {R : Record} {j : Judged} (A : Allowed b m k R j) wh
 
     -- and is what is returned
     pub returns-found : {q out : List ℕ} {gains : List ℤ} → s ≡ askingMan q → checkAsked (R .n) m q (length out) (length gains) ≡ fine →
-        {a : Answer} {out′ : List ℕ} {gains′ : List ℤ} → repairOutcome a ≡ gives (shownAnswer (r .letter) (r .distance)) →
+        {a : Answer} {out′ : List ℕ} {gains′ : List ℤ} → repairOutcome a ≡ gives (shownAnswer (r .letter) (movedAt (R .n) (weightOf k) (vec (j .places .men)) (vec (r .men)))) →
         out′ ≡ shownIn (r .letter) (R .n) (womenAt (R .n) (R .mlists) (vec (r .men))) out →
         gains′ ≡ shownIn (r .letter) (R .n) (gainsAt (R .n) (vec (j .places .men)) (vec (r .men))) gains →
         Repaired b m k q out gains a out′ gains′

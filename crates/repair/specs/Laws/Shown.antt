@@ -15,6 +15,8 @@ use Rattle.format.specs.Record.{Record}
 use Rattle.stable_theory.specs.Stable.Vector.{Stable}
 use Rattle.stable_theory.specs.Stable.Holding.{Same}
 use Rattle.stable_theory.specs.Stable.Alike.{alike-sym, same-alike, stable-alike}
+use Rattle.stable_theory.specs.Repairs.Repair.{moved, weight}
+use Rattle.stable_theory.specs.Repairs.AnswerAlike.{weight-alike}
 use Rattle.stable_theory.specs.Repairs.Answer.{Answer, Answers, nearer-up, nearer-down, neither}
 use Rattle.matchings.specs.declared.places.Judged.{Judged}
 use Rattle.matchings.specs.BookMarket.{market}
@@ -26,12 +28,13 @@ use Rattle.instances.specs.Usable.{marketIn}
 use Rattle.stability.specs.Laws.Judged.{BookJudged}
 use Rattle.extremes.specs.Places.{womenAt}
 use Rattle.extremes.specs.Laws.ExtremeBytes.{women-filled}
+use Rattle.repairs.specs.Weights.{movedWeight}
 use Rattle.repairs.specs.Repair.{up, down, gainsOf, withDistance, entriesFor, matchingFor, gainsFor}
 use Rattle.repairs.specs.Laws.Bytes.{place-of, moved-vector, vector-place}
 use Rattle.nearest.specs.declared.answer.Nearest.{Nearest}
 use Rattle.nearest.specs.Nearest.{Shows, vectorAfter}
 use Rattle.nearest.specs.Laws.Book.{judged-formed, judged-tables, judged-number, judged-alike, judged-men}
-use Rattle.repair_answer.specs.Shown.{gainsAt, shownAnswer, shownIn}
+use Rattle.repair_answer.specs.Shown.{movedAt, gainsAt, shownAnswer, shownIn}
 
 module _ {b m : List ℕ} {R : Record} {j : Judged} (J : BookJudged b m R j) (f : checkMatching b m ≡ fine) where
   inside : MatchingIn b m
@@ -60,6 +63,11 @@ module _ {b m : List ℕ} {R : Record} {j : Judged} (J : BookJudged b m R j) (f 
         ap₂ less (judged-men J f i u ∙ place-of inside l) (same i u ∙ sym (vector-place (judged-formed J f) S l)))
         ∙ ap (values (λ i. less (manRank b i (womanOf m i)) (manRank b i (womanOf (matchingOf b v) i))) 0) (judged-number J f)
 
+    -- the weight of those who are moved is that of the bytes
+    moved-of : (c : ℕ → ℕ) → movedAt (R .n) c (vec (j .places .men)) p ≡ movedWeight (people b) c m (matchingOf b v)
+    unfolding weight moved
+    moved-of c = weight-alike (judged-alike J f) (judged-men J f) c p v same ∙ sym (moved-vector inside c S)
+
     gains-after : (gains : List ℤ) →
         gainsAt (R .n) (vec (j .places .men)) p ++ drop (R .n) gains ≡ gainsOf b m (matchingOf b v) ++ drop (people b) gains
     gains-after gains = ap₂ (λ (l : List ℤ) (n : ℕ). l ++ drop n gains) gains-of (judged-number J f)
@@ -73,14 +81,14 @@ module _ {b m : List ℕ} {R : Record} {j : Judged} (J : BookJudged b m R j) (f 
 
   -- the answer that is shown, the bytes and the gains are the definitions'
   pub says-answer : {c : ℕ → ℕ} {s : ℕ} {a : Answer} {r : Nearest} →
-      Answers (market b) c (vectorOf b m) s a → Shows (market b) c (vectorOf b m) a r →
-      shownAnswer (r .letter) (r .distance) ≡ withDistance b c m a
-  says-answer {c} (nearer-up K g) S = rw (S .letter) (ap up (S .distance ∙ sym (moved-vector inside c (K .parts .stable))))
-  says-answer {c} (nearer-down K g) S = rw (S .letter) (ap down (S .distance ∙ sym (moved-vector inside c (K .parts .stable))))
+      Answers (market b) c (vectorOf b m) s a → Shows (market b) (vectorOf b m) a r →
+      shownAnswer (r .letter) (movedAt (R .n) c (vec (j .places .men)) (vec (r .men))) ≡ withDistance b c m a
+  says-answer {c} (nearer-up K g) S = rw (S .letter) (ap up (moved-of (K .parts .stable) (S .places) c))
+  says-answer {c} (nearer-down K g) S = rw (S .letter) (ap down (moved-of (K .parts .stable) (S .places) c))
   says-answer (neither k g) S = rw (S .letter)
 
   pub says-bytes : {c : ℕ → ℕ} {s : ℕ} {a : Answer} {r : Nearest} →
-      Answers (market b) c (vectorOf b m) s a → Shows (market b) c (vectorOf b m) a r → (out : List ℕ) →
+      Answers (market b) c (vectorOf b m) s a → Shows (market b) (vectorOf b m) a r → (out : List ℕ) →
       shownIn (r .letter) (R .n) (womenAt (R .n) (R .mlists) (vec (r .men))) out
       ≡ filled fine (entriesFor b a) (matchingFor b a) out
   says-bytes (nearer-up K g) S out = rw (S .letter) (bytes-after (K .parts .stable) (S .places) out)
@@ -88,7 +96,7 @@ module _ {b m : List ℕ} {R : Record} {j : Judged} (J : BookJudged b m R j) (f 
   says-bytes (neither k g) S out = rw (S .letter)
 
   pub says-gains : {c : ℕ → ℕ} {s : ℕ} {a : Answer} {r : Nearest} →
-      Answers (market b) c (vectorOf b m) s a → Shows (market b) c (vectorOf b m) a r → (gains : List ℤ) →
+      Answers (market b) c (vectorOf b m) s a → Shows (market b) (vectorOf b m) a r → (gains : List ℤ) →
       shownIn (r .letter) (R .n) (gainsAt (R .n) (vec (j .places .men)) (vec (r .men))) gains
       ≡ filled fine (entriesFor b a) (gainsFor b m a) gains
   says-gains (nearer-up K g) S gains = rw (S .letter) (gains-after (K .parts .stable) (S .places) gains)

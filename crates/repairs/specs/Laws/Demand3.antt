@@ -1,7 +1,7 @@
 -- Demand 3 of a repair, from the answer to the replies and buffers of the contracts. Assumes nothing.
 use Prim.Native.Nat.{ℕ, _≤_, _<_}
 use mathlib.Core.Path.{_≡_, ap}
-use mathlib.Core.List.{List}
+use mathlib.Core.List.{List, []}
 use mathlib.Core.Logic.{_↔_}
 use lib.ListN.{length}
 use lib.IntN.{ℤ}
@@ -20,7 +20,8 @@ use Rattle.repairs.specs.Repair.{answerFor, RepairAnswer, fixed, withDis
 use Rattle.repairs.specs.Laws.RepairBytes.{holds}
 use Rattle.repairs.specs.Laws.AnswerBytes.{reply-fixed, reply-takes}
 use Rattle.repairs.specs.Laws.GainBytes.{reply-gains}
-use Rattle.repairs.specs.Promise.{pairOf, written, InEvery, Takes, Lightest, Gained, AnswerIs}
+use Rattle.repairs.specs.Promise.{pairOf, written, InEvery, Takes, Lightest, Gained, nonzeroWeight, AnswerIs, ReportedDistance}
+use Rattle.repairs.specs.Laws.MovedGains.{moved-gains, taken-reported}
 
 module _ (b m : List ℕ) (f : checkMatching b m ≡ fine) where
   pub inside : StableIn b m
@@ -51,12 +52,19 @@ module _ (b : List ℕ) (c : ℕ → ℕ) (m : List ℕ) (s : ℕ) (f : checkMat
       Gained b m (written b (matchingAfter v c b m (pairOf m s) out)) (gainsAfter v c b m (pairOf m s) gains)
   gains-are out gains n = rw (e, pair-first s (womanOf m s)) (reply-gains (inside b m f) l out gains c (answers b m f c l) n)
 
--- the answer, for one check that refuses nothing and for all
-pub answered :
-    (b : List ℕ) (c : ℕ → ℕ) (m : List ℕ) (s : ℕ) → checkMatching b m ≡ fine → s < people b → {v : Verdict} → v ≡ fine →
-    {check : List ℕ → List ℤ → Verdict} →
-    ((out : List ℕ) (gains : List ℤ) → people b ≤ length out → people b ≤ length gains → check out gains ≡ fine) →
-    (a : RepairAnswer) × (replyAfter v c b m (pairOf m s) ≡ gives a)
-    × AnswerIs (people b) (λ out gains. replyAfter (check out gains) c b m (pairOf m s)) a
-answered b c m s f l e fines =
-    (withDistance b c m (answerFor b c m s), reply-given b c m s f l e, λ out gains h k. reply-given b c m s f l (fines out gains h k))
+module _ (b : List ℕ) (c : ℕ → ℕ) (m : List ℕ) (s : ℕ) (f : checkMatching b m ≡ fine) (l : s < people b) {v : Verdict} (e : v ≡ fine)
+    {check : List ℕ → List ℤ → Verdict} (fines : (out : List ℕ) (gains : List ℤ) → people b ≤ length out → people b ≤ length gains → check out gains ≡ fine) where
+  -- the answer, for one check that refuses nothing and for all
+  pub answered :
+      (a : RepairAnswer) × (replyAfter v c b m (pairOf m s) ≡ gives a)
+      × AnswerIs (people b) (λ out gains. replyAfter (check out gains) c b m (pairOf m s)) a
+  answered =
+      (withDistance b c m (answerFor b c m s), reply-given b c m s f l e, λ out gains h k. reply-given b c m s f l (fines out gains h k))
+
+  -- its distance is the total weight of the students whose gain is not 0
+  pub distance-is :
+      (gains : List ℤ) → (InEvery b m s → ⊥) →
+      ReportedDistance (people b) (λ out g. replyAfter (check out g) c b m (pairOf m s))
+      (nonzeroWeight (people b) c (gainsAfter v c b m (pairOf m s) gains))
+  distance-is gains n =
+      taken-reported (takes b c m s f l e [] n .0) (answered .1) (answered .2) (moved-gains c (gains-are b c m s f l e [] gains n))

@@ -1,15 +1,13 @@
 -- How long a sheet can be, where no weight is over h: line one, and a line for each of the largest n. Assumes nothing.
 use Prim.Native.Nat.{ℕ, _+_, _*_, _^_, _≤_, _<_}
 use mathlib.Core.Path.{_≡_, refl}
-use mathlib.Core.Bool.{Bool, not}
+use mathlib.Core.Bool.{not}
 use mathlib.Core.List.{List}
 use native.Mathlib.Omega.{arith}
 use native.Mathlib.Nat.{mul-le-mul-right, mul-le-mul-left}
 use lib.ListN.{length, length-append}
 use lib.Dec.{eqb}
-use Rattle.laws.specs.Choice.{pick, tested}
-use Rattle.laws.specs.Sum.{sum}
-use Rattle.laws.specs.SumLaws.{sum-times}
+use Rattle.laws.specs.SumLaws.{sum-most}
 use Rattle.laws.specs.Maximum.{maximum-le}
 use Rattle.laws.specs.Onto.{Into}
 use Rattle.format.specs.Verdict.{Verdict, fine, refused}
@@ -36,24 +34,19 @@ use Rattle.sheets.specs.Longest.{digits, totalDigits, topMost, pairMost, longes
 use Rattle.sheets.specs.Sheet.{letterOf, distanceOf, answers, sheetAfter, sheetFor, weightedSheetFor}
 use Rattle.sheet_text.specs.Laws.Lines.{top-short, refusal-short, lines-short}
 
--- the terms of a total are at most h each: so is the total, for each student
-terms-most : (n h : ℕ) (p : ℕ → Bool) (c : ℕ → ℕ) → ((i : ℕ) → i < n → c i ≤ h) → sum n (λ i. pick (p i) (c i) 0) ≤ n * h
-terms-most n h p c light =
-    sum-times n h (λ i. pick (p i) (c i) 0) (λ i u. tested (p i) (λ e. rw e (light i u)) (λ e. rw e (omega arith)))
-
 -- Weights of at most h
 module _ (b : List ℕ) (c : ℕ → ℕ) (m : List ℕ) {h : ℕ} (light : (i : ℕ) → i < people b → c i ≤ h) where
   -- an answer's distance is at most h for each student
   pub distance-most : (a : Answer) → distanceOf b c m a ≤ people b * h
-  distance-most (U v) = terms-most (people b) h (λ i. not (eqb (womanOf (matchingOf b v) i) (womanOf m i))) c light
-  distance-most (D v) = terms-most (people b) h (λ i. not (eqb (womanOf (matchingOf b v) i) (womanOf m i))) c light
+  distance-most (U v) = sum-most (people b) h (λ i. not (eqb (womanOf (matchingOf b v) i) (womanOf m i))) c light
+  distance-most (D v) = sum-most (people b) h (λ i. not (eqb (womanOf (matchingOf b v) i) (womanOf m i))) c light
   distance-most F = omega arith
 
 -- over a market too
 pub far-most : (I : Market) (c p : ℕ → ℕ) {h : ℕ} → ((i : ℕ) → i < I .proposers .size → c i ≤ h) → (a : Answer) → farOf I c p a ≤ I .proposers .size * h
 unfolding weight
-far-most I c p {h} light (U v) = terms-most (I .proposers .size) h (moved p v) c light
-far-most I c p {h} light (D v) = terms-most (I .proposers .size) h (moved p v) c light
+far-most I c p {h} light (U v) = sum-most (I .proposers .size) h (moved p v) c light
+far-most I c p {h} light (D v) = sum-most (I .proposers .size) h (moved p v) c light
 far-most I c p light F = omega arith
 
 -- and so is its cost

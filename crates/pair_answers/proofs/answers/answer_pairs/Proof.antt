@@ -76,4 +76,5 @@ answer-pairs-spec =
     grade-of-requires
     (λ c. search needs)
     (λ c. search needs)
+    (λ c. search needs)
     returns)

@@ -17,6 +17,7 @@ push-spec =
     (tie.spec
     (λ c. let s : tie.Start = search in omega (arith, s .pre .1 .1 .1 .1))
     (λ c. let s : tie.Start = search in omega (arith, s .pre .1 .1 .1 .1))
+    (λ c. let s : tie.Start = search in omega (arith, s .pre .1 .1 .1 .1))
     (λ c κs. let s : tie.Start = search in (s .pre .0, (s .pre .1 .0, (s .pre .1 .1 .0, (s .pre .1 .1 .1 .0, omega (arith, s .pre .1 .1 .1 .1))))))
     (λ c. search needs)
     (λ c. search needs)

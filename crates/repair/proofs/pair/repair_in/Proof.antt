@@ -123,7 +123,7 @@ answer-requires c κs =
     let B = start (stable t) .pre .0 .recorded in
     let A = allowed t _ B in (
       found-writable A (student w) (r .nearest .ensures) (asks w .room-fits),
-      (given-small A, asks w .gains-fit),
+      (given-small A, allowed-weighed A (start (stable t) .pre .1) .men, asks w .gains-fit),
     )
 
 returns-4 : tie.Need-returns-4

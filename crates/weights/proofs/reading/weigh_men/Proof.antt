@@ -18,7 +18,7 @@ loop-again : tie.Need-loop-again Inv-loop μ-loop
 loop-again c =
     let s : tie.Start Inv-loop μ-loop = search in
     let l : tie.At-loop Inv-loop μ-loop = search in
-    (omega arith, men-on (l .loop .inv .1) (omega (arith, s .pre .1)) (c .wide .ensures .0) (c .wide .ensures .1))
+    (omega arith, men-on (l .loop .inv .1) (omega (arith, s .pre .1)) (c .weight .ensures .0) (c .weight .ensures .1))
 
 returns : tie.Need-returns Inv-loop μ-loop
 returns c =

@@ -5,8 +5,8 @@ use mir.Syntax.{w8}
 use mir.Val.{SFits}
 use mir.ValLaws.{toZ-pos, toZ-ofZ}
 use Rattle.laws.specs.Difference.{less, less-mag}
-use Rattle.repair_answer.proofs.gains.gain.Statement.{statement}
-use Rattle.repair_answer.proofs.gains.gain.Tie as tie
+use Rattle.repair_answer.proofs.moves.gain.Statement.{statement}
+use Rattle.repair_answer.proofs.moves.gain.Tie as tie
 
 -- the difference fits
 fits : (c : tie.Start) → SFits w8 (less (c .args .old) (c .args .new))
