@@ -97,7 +97,8 @@ struct placement_reply placement_mentor_best(const uint8_t *book, size_t book_le
 
 /* The repair of one pair. The request is two bytes, student then mentor. letter: 'U' repair up, 'D' repair down,
  * 'F' the pair is fixed; value: the distance (0 for 'F'). 'U' and 'D' write n bytes of the repaired matching to out
- * and n signed bytes to gains: old place less new, above zero is better. 'F' writes neither.
+ * and n signed bytes to gains: old place less new, above zero is better, and the distance is the number of those that
+ * are not 0. 'F' writes neither.
  * Both buffers must hold n entries in every case. Refused: the book, then 8, 9, 10, then 13, 11, 12, then 14. */
 struct placement_reply placement_repair(const uint8_t *book, size_t book_len, const uint8_t *matching, size_t matching_len,
                                         const uint8_t *request, size_t request_len, uint8_t *out, size_t out_len,
@@ -131,8 +132,8 @@ struct placement_reply placement_matching_to_set(const uint8_t *book, size_t boo
 struct placement_reply placement_sheet(const uint8_t *input, size_t input_len, uint8_t *out, size_t out_len);
 
 /* The repair of one pair where each student has a weight: as placement_repair, with the total weight of the students
- * moved in place of their number. The repair of the smaller total is given, up when equal, and value is that total. A
- * pair that can be repaired is 'U' or 'D' even where the total is 0. Weights of 1 give the answers of placement_repair.
+ * moved in place of their number. The repair of the smaller total is given, up when equal, and value is that total, the
+ * weight of the students whose gain is not 0. A pair that can be repaired is 'U' or 'D' even where the total is 0. Weights of 1 give the answers of placement_repair.
  * Refused: the book, then 8, 9, 10, then 17, then 13, 11, 12, then 14. */
 struct placement_reply placement_weighted_repair(const uint8_t *book, size_t book_len, const uint8_t *matching, size_t matching_len,
                                                  const uint8_t *weights, size_t weights_len, const uint8_t *request,
