@@ -14,7 +14,8 @@ struct asked {
 /* A matching, weights and a request of the right lengths, with result buffers of n entries. */
 struct asked asked_of(struct book book, const uint8_t *matching, const uint8_t *weights, const uint8_t *request);
 
-/* The repair, into buffers between guard bytes, and the grade. Each input ends at a page that may not be read. */
+/* The repair, into buffers between guard bytes, and the grade. Each input ends at a page that may not be read. What a
+ * repair reports is recounted from the gains. */
 struct placement_reply weighted_repair(const struct asked *asked, struct lent *out, struct lent *gains);
 struct placement_reply weighted_grade(const struct asked *asked);
 

@@ -4,12 +4,28 @@
 
 static struct lent out, gains;
 
+/* W-202: a repair up or down reports how many of the n gains that it wrote are not 0. */
+static void recount(struct placement_reply reply, size_t n)
+{
+    size_t moved = 0;
+    if (reply.letter == 'U' || reply.letter == 'D') {
+        for (size_t i = 0; i < n; i++) {
+            moved += gains.bytes[GUARD + i] != 0;
+        }
+        EXPECT(reply, answer((char)reply.letter, moved));
+    }
+}
+
+/* The repair with buffers of these lengths. What it reports is recounted. */
 static struct placement_reply repair_in(struct book book, const uint8_t *matching, size_t length, const uint8_t *request,
                                         size_t request_length, size_t room, size_t gains_room)
 {
     const uint8_t *bytes = fenced(0, book.bytes, book.length);
-    return placement_repair(bytes, book.length, fenced(1, matching, length), length, fenced(2, request, request_length),
-                            request_length, lend(&out, room), room, (int8_t *)lend(&gains, gains_room), gains_room);
+    struct placement_reply reply =
+        placement_repair(bytes, book.length, fenced(1, matching, length), length, fenced(2, request, request_length),
+                         request_length, lend(&out, room), room, (int8_t *)lend(&gains, gains_room), gains_room);
+    recount(reply, book.n);
+    return reply;
 }
 
 /* The repair of a student's pair with buffers of n entries. */

@@ -1,5 +1,6 @@
 //! Each call on both libraries, with equal inputs and equal result buffers, compared in reply and in every byte of the
-//! buffers and of the guard bytes before and after them.
+//! buffers and of the guard bytes before and after them. What the archive reports of a repair is recounted from its
+//! gains.
 
 use crate::tally::{hex, Tally};
 use independent::calls;
@@ -84,11 +85,13 @@ impl Both {
         b
     }
 
-    /// Makes a call with two result buffers of these lengths, the second for gains, on both sides.
+    /// Makes a call for a repair with these weights and two result buffers of these lengths, the second for gains, on
+    /// both sides.
     fn lending_two(
         &mut self,
         call: &str,
         inputs: &[&[u8]],
+        weights: &[u8],
         [room, gains_room]: [usize; 2],
         archive: impl Fn(&mut [u8], &mut [i8]) -> Reply,
         independent: impl Fn(&mut [u8], &mut [i8]) -> Reply,
@@ -107,7 +110,26 @@ impl Both {
             let (a, b) = (text(a, &mut out, &mut gains), text(b, &mut out2, &mut gains2));
             self.tally.differ(&call, inputs, a, b);
         }
+        self.recount(call, inputs, weights, a, gains.signed());
         b
+    }
+
+    /// W-202: a repair up or down reports the total weight of the students whose gains are not 0.
+    fn recount(&mut self, call: &str, inputs: &[&[u8]], weights: &[u8], reply: Reply, gains: &[i8]) {
+        if reply.letter != 'U' as usize && reply.letter != 'D' as usize {
+            return;
+        }
+        let gains = &gains[..gains.len().min(weights.len())];
+        let total = |moved: bool| {
+            let those = gains.iter().zip(weights).filter(|(&gain, _)| (gain != 0) == moved);
+            those.map(|(_, &weight)| weight as usize).sum()
+        };
+        let (moved, left) = (total(true), total(false));
+        self.tally.count_mixed(call, moved, left);
+        if reply.value != moved {
+            let (given, due) = (format!("{reply:?}, gains {gains:?}"), format!("value {moved}, by these gains"));
+            self.tally.differ(&format!("{call}, recount"), inputs, given, due);
+        }
     }
 
     pub fn check_book(&mut self, book: &[u8]) -> Reply {
@@ -195,6 +217,7 @@ impl Both {
         self.lending_two(
             "repair",
             &[book, m, request],
+            &vec![1; m.len()],
             [room, gains_room],
             |out, gains| archive::repair(book, m, request, out, gains),
             |out, gains| calls::repair(book, m, request, out, gains),
@@ -222,6 +245,7 @@ impl Both {
         self.lending_two(
             "weighted_repair",
             &[book, m, weights, request],
+            weights,
             rooms,
             |out, gains| archive::weighted_repair(book, m, weights, request, out, gains),
             |out, gains| calls::weighted_repair(book, m, weights, request, out, gains),

@@ -6,6 +6,9 @@ use std::fmt::Write;
 /// How many differences are printed in full.
 const PRINTED: usize = 5;
 
+/// The calls whose number is recounted from the gains.
+const REPAIRS: [&str; 2] = ["repair", "weighted_repair"];
+
 #[derive(Default)]
 pub struct Tally {
     pub books: usize,
@@ -19,6 +22,8 @@ pub struct Tally {
     pub turned: [usize; 2],
     /// Weighted answers with U or D and a total of 0.
     pub weightless: usize,
+    /// Repairs, plain and weighted, that move students who weigh more than 0 and leave others who do.
+    pub mixed: [usize; 2],
     /// Refusals by number; at 0 the calls that were not refused.
     pub refusals: [usize; 18],
     pub differences: usize,
@@ -42,18 +47,24 @@ impl Tally {
         self.weightless += (plain.value > 0 && weighted.value == 0) as usize;
     }
 
+    /// Counts a repair by the total weights of the students whom it moves and of those whom it leaves.
+    pub fn count_mixed(&mut self, call: &str, moved: usize, left: usize) {
+        let repair = REPAIRS.iter().position(|&repair| repair == call).expect("one of these calls");
+        self.mixed[repair] += (moved > 0 && left > 0) as usize;
+    }
+
     /// Counts a difference, and prints it if it is one of the first.
-    pub fn differ(&mut self, call: &str, inputs: &[&[u8]], archive: String, independent: String) {
+    pub fn differ(&mut self, call: &str, inputs: &[&[u8]], archive: String, due: String) {
         self.differences += 1;
         if self.differences > PRINTED {
             return;
         }
         println!("difference {} in {call}, book {}", self.differences, self.books);
         for input in inputs {
-            println!("  input        {}", hex(input));
+            println!("  input    {}", hex(input));
         }
-        println!("  archive      {archive}");
-        println!("  independent  {independent}");
+        println!("  archive  {archive}");
+        println!("  due      {due}");
     }
 
     /// What never occurred and should have.
@@ -63,7 +74,9 @@ impl Tally {
         let books = (self.largest_books == 0).then(|| "book of 64".to_string());
         let turned = (0..2).filter(|&k| self.turned[k] == 0).map(|k| format!("weights that give {}", ["U", "D"][k]));
         let weightless = (self.weightless == 0).then(|| "repair of weight 0".to_string());
-        refusals.chain(letters).chain(books).chain(turned).chain(weightless).collect()
+        let mixed = REPAIRS.iter().zip(self.mixed).filter(|(_, times)| *times == 0);
+        let mixed = mixed.map(|(call, _)| format!("{call} that moves students and leaves others"));
+        refusals.chain(letters).chain(books).chain(turned).chain(weightless).chain(mixed).collect()
     }
 
     pub fn print(&self) {
@@ -71,6 +84,8 @@ impl Tally {
         println!("books {} ({} of n = 64), stable matchings {}", self.books, self.largest_books, self.matchings);
         println!("damaged books {}, calls {}: U {up}, D {down}, F {fixed}", self.damaged_books, self.calls);
         println!("weights: {turned_up} D to U, {turned_down} U to D, {} totals of 0", self.weightless);
+        let [plain, weighted] = self.mixed;
+        println!("repairs that move students and leave others: plain {plain}, weighted {weighted}");
         let mut line = String::from("refused");
         for (number, times) in self.refusals.iter().enumerate().skip(1) {
             write!(line, " {number}: {times}").expect("a string takes everything");

@@ -1,5 +1,6 @@
 //! Each call on the archive and on the listing, with equal inputs and equal result buffers, compared in every field
-//! of the reply and in every byte of the buffers and of the guard bytes around them.
+//! of the reply and in every byte of the buffers and of the guard bytes around them. What the archive reports of a
+//! repair is recounted from its gains.
 
 use crate::lent::Lent;
 use crate::tally::{Call, Tally};
@@ -61,12 +62,13 @@ impl Both {
         (due, other.buffer().to_vec())
     }
 
-    /// Makes a call with result buffers of these lengths for a matching and for gains on both sides; the reply that is
-    /// due.
+    /// Makes a call for a repair with these weights, and result buffers of these lengths for a matching and for gains,
+    /// on both sides; the reply that is due.
     fn lending_both(
         &mut self,
         call: Call,
         inputs: &[&[u8]],
+        weights: &[u8],
         (room, gains_room): (usize, usize),
         archive: impl Fn(&mut [u8], &mut [i8]) -> Reply,
         listing: impl Fn(&mut [u8], &mut [i8]) -> listing::reply::Reply,
@@ -81,7 +83,26 @@ impl Both {
             let b = format!("{due:?} {:?} {:?}", other.all(), due_gains.all());
             self.tally.differ(format!("{call:?} {inputs:?}, rooms {room} {gains_room}\n  archive {a}\n  due     {b}"));
         }
+        self.recount(call, inputs, weights, given, gains.buffer());
         due
+    }
+
+    /// W-202: a repair up or down reports the total weight of the students whose gains are not 0.
+    fn recount(&mut self, call: Call, inputs: &[&[u8]], weights: &[u8], given: Reply, gains: &[i8]) {
+        if given.letter != 'U' as usize && given.letter != 'D' as usize {
+            return;
+        }
+        let gains = &gains[..gains.len().min(weights.len())];
+        let total = |moved: bool| {
+            let those = gains.iter().zip(weights).filter(|(&gain, _)| (gain != 0) == moved);
+            those.map(|(_, &weight)| weight as usize).sum()
+        };
+        let (moved, left) = (total(true), total(false));
+        self.tally.count_mixed(call, moved, left);
+        if given.value != moved {
+            let report = format!("\n  archive {given:?} {gains:?}\n  due     value {moved}, by these gains");
+            self.tally.differ(format!("{call:?} {inputs:?}, recount{report}"));
+        }
     }
 
     /// The check of a book.
@@ -140,7 +161,7 @@ impl Both {
         let inputs = [book.book(), matching, request];
         let archive = |out: &mut [u8], gains: &mut [i8]| archive::repair(book.book(), matching, request, out, gains);
         let listing = |out: &mut [u8], gains: &mut [i8]| book.repair(matching, request, out, gains);
-        self.lending_both(Call::Repair, &inputs, (room, gains_room), archive, listing)
+        self.lending_both(Call::Repair, &inputs, &vec![1; matching.len()], (room, gains_room), archive, listing)
     }
 
     /// The grade of a matching.
@@ -203,7 +224,8 @@ impl Both {
             archive::weighted_repair(book.book(), matching, weights, request, out, gains)
         };
         let listing = |out: &mut [u8], gains: &mut [i8]| book.weighted_repair(matching, weights, request, out, gains);
-        self.lending_both(Call::WeightedRepair, &[book.book(), matching, weights, request], rooms, archive, listing)
+        let inputs = [book.book(), matching, weights, request];
+        self.lending_both(Call::WeightedRepair, &inputs, weights, rooms, archive, listing)
     }
 
     /// The weighted grade of a matching: the reply that is due.
@@ -225,4 +247,30 @@ impl Both {
 /// The number of the refusal that a sheet prints, if it prints one.
 fn printed_refusal(text: &[u8]) -> Option<usize> {
     std::str::from_utf8(text).ok()?.strip_prefix("refused ")?.trim_end().parse().ok()
+}
+
+#[cfg(test)]
+mod tests {
+    use super::*;
+
+    /// Recounts a weighted repair: the differences, and whether students are moved and others left.
+    fn recounted(letter: char, value: usize, weights: &[u8], gains: &[i8]) -> (usize, usize) {
+        let mut both = Both::default();
+        let given = Reply { letter: letter as usize, ..Reply::value(value) };
+        both.recount(Call::WeightedRepair, &[], weights, given, gains);
+        (both.tally.differences, both.tally.mixed(Call::WeightedRepair))
+    }
+
+    /// Gains above 0 and below it count, and those past the last student do not. A fixed pair is not recounted.
+    #[test]
+    fn a_recount_of_another_number_differs() {
+        let (weights, gains) = ([3, 0, 250, 7], [1, -2, 0, -1, 5]);
+        assert_eq!(recounted('D', 10, &weights, &gains), (0, 1));
+        for value in [0, 3, 7, 250, 260] {
+            assert_eq!(recounted('D', value, &weights, &gains), (1, 1), "{value}");
+            assert_eq!(recounted('F', value, &weights, &gains), (0, 0), "{value}");
+        }
+        assert_eq!(recounted('U', 2, &[1, 1, 0], &[4, 1, 0]), (0, 0));
+        assert_eq!(recounted('U', 3, &[1, 1, 1], &[4, 1, 0]), (1, 1));
+    }
 }

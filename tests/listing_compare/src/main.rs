@@ -1,7 +1,7 @@
 //! Holds the archive against the listing of all matchings, in two parts: every book for n up to 3 and drawn ones for
 //! n = 4 to 6 with sound questions; and, on fewer books, whatever breaks a rule. Prints how much was compared and how
 //! often each rule was met. Exits with 1 on any difference, or where a call never gave a result or never met one of
-//! its rules, or no sheet printed a refusal that it can.
+//! its rules, or no sheet printed a refusal that it can, or no repair moved students and left others.
 
 mod beyond;
 mod books;
@@ -77,7 +77,7 @@ fn print_beyond(tally: &Tally) {
     println!("differences {}", tally.differences);
 }
 
-/// Prints how often each rule was met in both parts.
+/// Prints how often each rule was met in both parts, and how many repairs moved students and left others.
 fn print_rules(tally: &Tally) {
     println!("calls of both parts {}", tally.calls());
     for rule in 1..=17 {
@@ -85,4 +85,6 @@ fn print_rules(tally: &Tally) {
     }
     println!("sheets that print a refusal {}", tally.printed(Call::Sheet));
     println!("weighted sheets that print a refusal {}", tally.printed(Call::WeightedSheet));
+    println!("repairs that move students and leave others {}", tally.mixed(Call::Repair));
+    println!("weighted repairs that move students and leave others {}", tally.mixed(Call::WeightedRepair));
 }

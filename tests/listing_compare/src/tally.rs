@@ -90,6 +90,8 @@ pub struct Tally {
     met: [[usize; RULES]; COUNT],
     /// For each call how often it printed the refusal by each rule as a sheet.
     printed: [[usize; RULES]; COUNT],
+    /// For each call how many repairs moved students who weigh more than 0 and left others who do.
+    mixed: [usize; COUNT],
     pub differences: usize,
 }
 
@@ -109,6 +111,16 @@ impl Tally {
     /// How often a call has printed a refusal as a sheet.
     pub fn printed(&self, call: Call) -> usize {
         self.printed[call as usize].iter().sum()
+    }
+
+    /// Counts a repair by the total weights of the students whom it moves and of those whom it leaves.
+    pub fn count_mixed(&mut self, call: Call, moved: usize, left: usize) {
+        self.mixed[call as usize] += (moved > 0 && left > 0) as usize;
+    }
+
+    /// How many repairs of a call moved students and left others.
+    pub fn mixed(&self, call: Call) -> usize {
+        self.mixed[call as usize]
     }
 
     /// How many calls were made.
@@ -134,10 +146,13 @@ impl Tally {
         for (printed, more) in self.printed.iter_mut().flatten().zip(other.printed.iter().flatten()) {
             *printed += more;
         }
+        for (mixed, more) in self.mixed.iter_mut().zip(other.mixed) {
+            *mixed += more;
+        }
     }
 
-    /// The calls that never gave a result or were never refused by a rule that they have, and the refusals that they
-    /// never printed as a sheet.
+    /// The calls that never gave a result or were never refused by a rule that they have, the refusals that they never
+    /// printed as a sheet, and the calls for a repair that never moved students and left others.
     pub fn missing(&self) -> Vec<String> {
         let mut missing = Vec::new();
         for (call, takes_book, others) in CALLS {
@@ -153,6 +168,11 @@ impl Tally {
                 if self.printed[call as usize][rule] == 0 {
                     missing.push(format!("{call:?} that prints the refusal by rule {rule}"));
                 }
+            }
+        }
+        for call in [Call::Repair, Call::WeightedRepair] {
+            if self.mixed(call) == 0 {
+                missing.push(format!("{call:?} that moves students and leaves others"));
             }
         }
         missing
@@ -175,9 +195,11 @@ impl Tally {
 mod tests {
     use super::*;
 
-    /// A tally in which every call has met each of its rules, and every refusal that a sheet can print was printed.
+    /// A tally in which every call has met each of its rules, every refusal that a sheet can print was printed, and
+    /// repairs have moved students and left others.
     fn complete() -> Tally {
-        Tally { met: [[1; RULES]; COUNT], printed: [[1; RULES]; COUNT], ..Tally::default() }
+        let (met, printed) = ([[1; RULES]; COUNT], [[1; RULES]; COUNT]);
+        Tally { met, printed, mixed: [1; COUNT], ..Tally::default() }
     }
 
     /// What was never met is missed, and nothing else.
@@ -189,6 +211,8 @@ mod tests {
         assert_eq!(tally.missing(), ["Repair by rule 12"]);
         tally.printed[Call::WeightedSheet as usize][17] = 0;
         assert_eq!(tally.missing()[1..], ["WeightedSheet that prints the refusal by rule 17"]);
+        tally.mixed[Call::WeightedRepair as usize] = 0;
+        assert_eq!(tally.missing()[2..], ["WeightedRepair that moves students and leaves others"]);
         for rule in 1..RULES {
             let mut tally = complete();
             tally.met.iter_mut().for_each(|rules| rules[rule] = 0);
