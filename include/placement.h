@@ -133,7 +133,8 @@ struct placement_reply placement_sheet(const uint8_t *input, size_t input_len, u
 
 /* The repair of one pair where each student has a weight: as placement_repair, with the total weight of the students
  * moved in place of their number. The repair of the smaller total is given, up when equal, and value is that total, the
- * weight of the students whose gain is not 0. A pair that can be repaired is 'U' or 'D' even where the total is 0. Weights of 1 give the answers of placement_repair.
+ * weight of the students whose gain is not 0. A pair that can be repaired is 'U' or 'D' even where the total is 0.
+ * Weights of 1 give the answers of placement_repair.
  * Refused: the book, then 8, 9, 10, then 17, then 13, 11, 12, then 14. */
 struct placement_reply placement_weighted_repair(const uint8_t *book, size_t book_len, const uint8_t *matching, size_t matching_len,
                                                  const uint8_t *weights, size_t weights_len, const uint8_t *request,
