@@ -35,8 +35,8 @@ extern "C" {
 #define PLACEMENT_LARGEST_ROTATION_COUNT 2016 /* rotations, n(n - 1)/2: bytes of a set */
 #define PLACEMENT_LARGEST_ROTATION_LIST 10080 /* bytes of a list of rotations: five for each of so many */
 
-/* The bytes of stack that a call needs, at most, whatever n is: as tests/stack measures the archive, rounded up. Nothing
- * is allocated otherwise, so the tables of a call lie on the stack of the thread that makes it. */
+/* The bytes of stack that a call needs, at most, whatever n is: as tests/stack measures the archive, rounded up.
+ * Nothing is allocated otherwise, so the tables of a call lie on the stack of the thread that makes it. */
 #define PLACEMENT_STACK_BOOKS 1024       /* check_book, book_size, write_book, student_list, mentor_list */
 #define PLACEMENT_STACK_MATCHINGS 45056  /* check_matching, the extremes, rotation_count; repair, grade, sheet and their
                                             weighted calls */
@@ -117,7 +117,8 @@ struct placement_reply placement_rotations(const uint8_t *book, size_t book_len,
 /* value: 1 if rotation `first` precedes rotation `second`, else 0. Refused: the book, then 11. */
 struct placement_reply placement_precedes(const uint8_t *book, size_t book_len, size_t first, size_t second);
 
-/* The matching of a closed set, one byte 0 or 1 a rotation; n bytes to out. Refused: the book, then 15, 16, 14. value: n. */
+/* The matching of a closed set, one byte 0 or 1 a rotation; n bytes to out. Refused: the book, then 15, 16, 14.
+ * value: n. */
 struct placement_reply placement_set_to_matching(const uint8_t *book, size_t book_len, const uint8_t *set, size_t set_len,
                                                  uint8_t *out, size_t out_len);
 

@@ -1,3 +1,3 @@
--- Laws of what is written. Assumes nothing.
+-- Laws of what is written, and of those who are moved. Assumes nothing.
 pub mod Small
 pub mod Moved

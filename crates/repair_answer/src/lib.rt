@@ -1,4 +1,5 @@
-// The answer for a nearest repair: its matching and the places gained, written to the two result buffers.
+// The answer for a nearest repair: its distance, and its matching and the places gained, written to the two result
+// buffers.
 mod moves;
 mod written;
 

@@ -18,25 +18,25 @@ ghost use Rattle.repairs.specs.Repair.{repairOutcome};
 ghost use Rattle.pushing.specs.Push.{Weighed};
 ghost use Rattle.repair_answer.specs.Shown.{Small, movedAt, gainsAt, shownAnswer, shownIn};
 
-// Writes the repair with the places `places`: its matching, and what each man gains from `men`. Its distance is the
-// total weight of those who are moved.
+// Writes the repair in which the men have the places `repaired`: its matching, and what each gains from `men`. Its
+// distance is the total weight of those who are moved.
 fn write_repair(
     n: usize,
     mlists: &[u16],
     men: &[u16],
     weights: &[u32],
-    places: &[u16],
+    repaired: &[u16],
     out: &mut [u8],
     gains: &mut [i8],
 ) -> Repair
-    requires { ⌜ MatchingWritable n (now mlists) (now places) (now out) ⌝ }
+    requires { ⌜ MatchingWritable n (now mlists) (now repaired) (now out) ⌝ }
     requires { ⌜ Small n (now men) × Weighed n (now weights) × (n ≤ length (now gains)) ⌝ }
-    ensures distance { λ r. ⌜ r .distance ≡ movedAt n (vec₀ weights) (vec₀ men) (vec₀ places) ⌝ }
-    ensures bytes { λ _. ⌜ now₁ out ≡ womenAt n (now₀ mlists) (vec₀ places) ++ drop n (now₀ out) ⌝ }
-    ensures places { λ _. ⌜ now₁ gains ≡ gainsAt n (vec₀ men) (vec₀ places) ++ drop n (now₀ gains) ⌝ }
+    ensures distance { λ r. ⌜ r .distance ≡ movedAt n (vec₀ weights) (vec₀ men) (vec₀ repaired) ⌝ }
+    ensures bytes { λ _. ⌜ now₁ out ≡ womenAt n (now₀ mlists) (vec₀ repaired) ++ drop n (now₀ out) ⌝ }
+    ensures places { λ _. ⌜ now₁ gains ≡ gainsAt n (vec₀ men) (vec₀ repaired) ++ drop n (now₀ gains) ⌝ }
 {
-    write_matching(n, mlists, places, out);
-    let moved = moves(n, men, places, weights, gains);
+    write_matching(n, mlists, repaired, out);
+    let moved = moves(n, men, repaired, weights, gains);
     Repair {
         distance: moved.total,
     }

@@ -1,7 +1,7 @@
 -- The men who are moved: counted one by one, and known by their gains. Assumes nothing.
 use Prim.Native.Nat.{ℕ, _+_, _*_, _≤_, _<_}
 use mathlib.Core.Path.{_≡_, sym, _∙_, ap, ap₂}
-use mathlib.Core.Bool.{Bool, not}
+use mathlib.Core.Bool.{not}
 use mathlib.Core.List.{List, _++_}
 use native.Mathlib.Omega.{arith}
 use native.Mathlib.Numerals.{add-one}
@@ -11,10 +11,10 @@ use lib.ListN.{drop}
 use Rattle.laws.specs.Choice.{pick}
 use Rattle.laws.specs.Difference.{less, less-zero}
 use Rattle.laws.specs.Refill.{refilled-at}
-use Rattle.laws.specs.SumLaws.{sum-same, sum-most}
+use Rattle.laws.specs.SumLaws.{sum-most}
 use Rattle.format.specs.Format.{largest}
-use Rattle.repairs.specs.Promise.{notZero, nonzeroCount, nonzeroWeight}
-use Rattle.repairs.specs.Laws.MovedGains.{zero-test}
+use Rattle.repairs.specs.Promise.{nonzeroCount, nonzeroWeight}
+use Rattle.repairs.specs.Laws.MovedGains.{differ-nonzero}
 use Rattle.repair_answer.specs.Shown.{movedAt, gainsAt}
 
 module _ (c p q : ℕ → ℕ) where
@@ -29,11 +29,11 @@ module _ (c p q : ℕ → ℕ) where
   -- they are those whose gain is not 0
   pub moved-nonzero : (n : ℕ) (gains : List ℤ) → movedAt n c p q ≡ nonzeroWeight n c (gainsAt n p q ++ drop n gains)
   moved-nonzero n gains =
-      sum-same n (λ i. pick (not (eqb (q i) (p i))) (c i) 0) (λ i. pick (notZero (gainsAt n p q ++ drop n gains) i) (c i) 0)
+      differ-nonzero n c q p (gainsAt n p q ++ drop n gains)
       (λ i u.
       let e = refilled-at (pos 0) (λ j. less (p j) (q j)) gains {k = n} u in
       let Z = less-zero (p i) (q i) in
-      ap (λ (t : Bool). pick t (c i) 0) (zero-test (q i) (p i) _ (λ z. sym (Z .0 (sym e ∙ z)), λ z. e ∙ Z .1 (sym z))))
+      (λ z. sym (Z .0 (sym e ∙ z)), λ z. e ∙ Z .1 (sym z)))
 
 -- The count is the number of gains that are not 0
 pub count-nonzero : (n : ℕ) (p q : ℕ → ℕ) (gains : List ℤ) → movedAt n (λ i. 1) p q ≡ nonzeroCount n (gainsAt n p q ++ drop n gains)

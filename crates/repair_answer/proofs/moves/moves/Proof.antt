@@ -29,6 +29,7 @@ abbrev μ-loop : tie.MeasureT-loop
 abbrev Start : Type 0
 Start = tie.Start Inv-loop μ-loop
 
+-- from each place to the one before it that the proof names
 abbrev start : tie.At-loop Inv-loop μ-loop → Start
 start c = search
 
