@@ -8,11 +8,13 @@ pub mod Rows
 pub mod Faults
 pub mod Numbers
 pub mod Holds
-pub mod Stages
 pub mod Directory
+pub mod Returned
+pub mod Stages
 pub mod Person
 pub mod Sides
 pub mod Frame
 pub mod LongTables
 pub mod Written
 pub mod ListBytes
+pub mod EqualBytes

@@ -8,11 +8,13 @@ pub mod Lists
 pub mod Check
 pub mod Frame
 pub mod WellFormed
+pub mod Place
+pub mod Complete
 pub mod Write
 pub mod Writable
 pub mod RoundTrip
 pub mod Person
-pub mod Place
+pub mod Partner
 pub mod Record
 pub mod Ranks
 pub mod Laws

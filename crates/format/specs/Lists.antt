@@ -1,10 +1,12 @@
--- Rules 6 and 7: strangers and repeats in lists. A list is a function from places to entries. Assumes nothing.
+-- Rules 6 and 7: strangers and repeats in lists, and rule 9, the same in a matching. A list is a function from places to
+-- entries. Assumes nothing.
 use Prim.Native.Nat.{ℕ, _+_}
-use mathlib.Core.Bool.{Bool}
+use mathlib.Core.Bool.{Bool, not}
 use lib.Dec.{leb, ltb, eqb}
-use Rattle.laws.specs.Choice.{pick, either}
+use Rattle.laws.specs.Choice.{pick, both, either}
 use Rattle.laws.specs.First.{first, some}
 use Rattle.format.specs.Verdict.{Verdict, fine, rule}
+use Rattle.format.specs.Format.{nobody}
 
 -- Entry j is n or more
 abbrev pub stranger : ℕ → (ℕ → ℕ) → ℕ → Bool
@@ -21,6 +23,15 @@ faulty n l j = either (stranger n l j) (repeat l j)
 -- The place of the first faulty entry among the first `len`, or len
 unfoldable pub firstFaulty : ℕ → (ℕ → ℕ) → ℕ → ℕ
 firstFaulty n l len = first (faulty n l) len
+
+-- Entry j of a matching breaks rule 9: it is faulty, and is not that of a student without a mentor where students may be
+-- alone
+abbrev pub clashes : Bool → ℕ → (ℕ → ℕ) → ℕ → Bool
+clashes alone n l j = both (not (both alone (eqb (l j) nobody))) (faulty n l j)
+
+-- The first such entry among the first `len`, or len
+unfoldable pub firstClash : Bool → ℕ → (ℕ → ℕ) → ℕ → ℕ
+firstClash alone n l len = first (clashes alone n l) len
 
 -- Rules 6 and 7 over one list whose entries stand one a byte from place `at` on: its first faulty entry is refused, 6
 -- before 7

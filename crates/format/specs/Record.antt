@@ -10,9 +10,8 @@ use Rattle.laws.specs.Table.{cell}
 use Rattle.laws.specs.Values.{vec}
 use Rattle.format.specs.declared.record.Instance.{Instance}
 use Rattle.format.specs.Verdict.{Verdict, fine, refused, verdictOf}
-use Rattle.format.specs.Format.{largest, people, listLength, entry}
+use Rattle.format.specs.Format.{largest, partial, people, listLength, entry, place}
 use Rattle.format.specs.Check.{checkBook}
-use Rattle.format.specs.Place.{place}
 
 -- Up to which n small tables do, and whether they do for n
 abbrev pub small : ℕ
@@ -26,9 +25,10 @@ abbrev pub vacant : ℕ
 vacant = 32768
 
 -- The tables of one side of n persons, whose lists are those from number `from` on: the entries of each list in a row,
--- after the n rows how long each is, and the place of w on it in a row of the ranks. Other cells may hold anything
+-- after the n rows how long each is, and the place of w on it in a row of the ranks, its length where w does not stand
+-- on it. Other cells may hold anything
 pub record SideTables (b : List ℕ) (n from : ℕ) (lists ranks : List ℕ) : Type 0 where
-  pub entries : {i j : ℕ} → i < n → j < n → cell lists n i j ≡ entry b (from + i) j
+  pub entries : {i j : ℕ} → i < n → j < listLength b (from + i) → cell lists n i j ≡ entry b (from + i) j
   pub lengths : {i : ℕ} → i < n → cell lists n n i ≡ listLength b (from + i)
   pub places : {i w : ℕ} → i < n → w < n → cell ranks n i w ≡ place b (from + i) w
   pub lists-long : n * n + n ≤ length lists
@@ -60,10 +60,11 @@ pub record RecordIs (b : List ℕ) (n : ℕ) (r : Record) : Type 0 where
   pub men : SideTables b n 0 (r .mlists) (r .mranks)
   pub women : SideTables b n n (r .wlists) (r .wranks)
 
--- What is made of a book: the check's answer, n, and the tables; on a refusal n is 0, so that the cells may hold
+-- What is made of a book: the check's answer, whether lists may be short, n, and the tables; on a refusal n is 0, so that the cells may hold
 -- anything
 pub record Recorded (b : List ℕ) (i : Instance) (r : Record) : Type 0 where
   pub checked : verdictOf (i .checked) ≡ checkBook b
+  pub partial : i .partial ≡ partial b
   pub tables : RecordIs b (numberIf (checkBook b) (people b)) r
   pub number : i .n ≡ r .n
 

@@ -15,6 +15,7 @@ pub use counted::Counted;
 pub use framed::Framed;
 pub use people::Man;
 pub use people::Pair;
+pub use people::Partner;
 pub use people::Woman;
 pub use record::Instance;
 pub use sizes::LARGEST_INPUT;

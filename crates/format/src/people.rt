@@ -11,3 +11,9 @@ pub struct Pair {
     pub man: Man,
     pub woman: Woman,
 }
+
+// The woman of a man in a matching, or that he is alone.
+pub enum Partner {
+    With(Woman),
+    Alone,
+}

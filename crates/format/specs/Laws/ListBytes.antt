@@ -1,4 +1,4 @@
--- The list bytes of a well formed book: how many there are, that they hold its lists and can be written again, and
+-- The list bytes of a well formed book of edition 1: how many there are, that they hold its lists and can be written again, and
 -- that every byte of what is then written is the book's own. Assumes nothing.
 use Prim.Native.Nat.{ℕ, zero, suc, _+_, _*_, _-_, _≤_, _<_}
 use mathlib.Core.Path.{_≡_, refl, sym, _∙_, ap}
@@ -9,14 +9,14 @@ use lib.Seq.{getD-drop}
 use Rattle.laws.specs.Choice.{split}
 use Rattle.laws.specs.Onto.{into-cong}
 use Rattle.laws.specs.Table.{in-rows}
-use Rattle.format.specs.Format.{Bytes, byte, people, offset, listLength, listsStart, entry, size}
-use Rattle.format.specs.WellFormed.{WellFormed}
+use Rattle.format.specs.Format.{Bytes, byte, edition, people, offset, listLength, listsStart, entry, size}
+use Rattle.format.specs.Complete.{CompleteBook}
 use Rattle.format.specs.Write.{given, listBytes, pairBytes, bookOf}
 use Rattle.format.specs.Writable.{Writable}
 use Rattle.format.specs.Laws.Written.{list-byte, pair-byte}
 
-module _ (b : List ℕ) (W : WellFormed b) where
-  -- how many list bytes a well formed book has
+module _ (b : List ℕ) (W : CompleteBook b) where
+  -- how many list bytes such a book has
   pub list-count : length (listBytes b) ≡ 2 * (people b * people b)
   unfolding size
   list-count = omega (arith, length-drop (listsStart (people b)) b, W .long)
@@ -53,8 +53,8 @@ module _ (b : List ℕ) (W : WellFormed b) where
 
     -- the first two bytes
     front-own : (i : ℕ) → i < 2 → byte (bookOf (people b) (listBytes b)) i ≡ byte b i
-    unfolding bookOf people
-    front-own zero u = sym (W .edition)
+    unfolding bookOf edition people
+    front-own zero u = sym (W .first)
     front-own (suc zero) u = refl
     front-own (suc (suc i)) u = absurd (omega arith)
 

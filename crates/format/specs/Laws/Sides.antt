@@ -5,29 +5,30 @@ use mathlib.Core.Path.{_≡_, subst⁻¹}
 use mathlib.Core.List.{List}
 use native.Mathlib.Omega.{arith}
 use Rattle.laws.specs.Onto.{Into}
-use Rattle.format.specs.Format.{people, listLength, entry}
+use Rattle.format.specs.Format.{people, listLength, entry, place}
 use Rattle.format.specs.WellFormed.{WellFormed}
-use Rattle.format.specs.Place.{place, place-lt, entry-at-place, place-of-entry}
+use Rattle.format.specs.Place.{place-most, entry-at-place, place-of-entry}
+use Rattle.format.specs.Laws.Directory.{allowed-most}
 
--- List k has n entries that are different numbers below n, and it and its places are inverse
-pub record FullList (b : List ℕ) (n k : ℕ) : Type 0 where
-  pub long : listLength b k ≡ n
-  pub names : Into n n (entry b k)
-  pub place-small : {w : ℕ} → w < n → place b k w < n
-  pub at-place : {w : ℕ} → w < n → entry b k (place b k w) ≡ w
-  pub place-back : {j : ℕ} → j < n → place b k (entry b k j) ≡ j
+-- List k has at most n entries, different numbers below n, and it and its places are inverse
+pub record RightList (b : List ℕ) (n k : ℕ) : Type 0 where
+  pub long : listLength b k ≤ n
+  pub names : Into (listLength b k) n (entry b k)
+  pub place-upto : (w : ℕ) → place b k w ≤ listLength b k
+  pub at-place : {w : ℕ} → place b k w < listLength b k → entry b k (place b k w) ≡ w
+  pub place-back : {j : ℕ} → j < listLength b k → place b k (entry b k j) ≡ j
 
 -- so is each list of a well formed book
-full-list : {b : List ℕ} {k : ℕ} → WellFormed b → k < 2 * people b → FullList b (people b) k
-full-list {b} W h =
+right-list : {b : List ℕ} {k : ℕ} → WellFormed b → k < 2 * people b → RightList b (people b) k
+right-list {b} {k} W h =
     record {
-      long = W .lengths h;
+      long = allowed-most b (W .lengths h);
       names = W .names h;
-      place-small = place-lt W h;
-      at-place = entry-at-place W h;
-      place-back = place-of-entry W h;
+      place-upto = place-most b k;
+      at-place = λ u. entry-at-place b k u;
+      place-back = λ u. place-of-entry W h u;
     }
 
 -- and the list of each person of a side, whose lists are those from number `from` on
-pub side-list : {b : List ℕ} {n from i : ℕ} → WellFormed b → n ≡ people b → from ≤ n → i < n → FullList b n (from + i)
-side-list {b} {from = from} {i = i} W e h u = subst⁻¹ (λ (m : ℕ). FullList b m (from + i)) e (full-list W (omega arith))
+pub side-list : {b : List ℕ} {n from i : ℕ} → WellFormed b → n ≡ people b → from ≤ n → i < n → RightList b n (from + i)
+side-list {b} {from = from} {i = i} W e h u = subst⁻¹ (λ (m : ℕ). RightList b m (from + i)) e (right-list W (omega arith))

@@ -1,0 +1,11 @@
+-- Whom a man has in a matching. Assumes nothing.
+use Prim.Native.Nat.{ℕ}
+use mathlib.Core.Path.{_≡_}
+use Rattle.format.specs.declared.people.Partner.{Partner}
+use Rattle.format.specs.declared.people.Partner.the-variants.{With, Alone}
+use Rattle.format.specs.Format.{nobody}
+
+-- The partner that the entry x of a matching stands for: a woman by her number, or nobody
+abbrev pub PartnerIs : ℕ → Partner → Type 0
+PartnerIs x (With w) = (x ≡ w .0) × (x ≡ nobody → ⊥)
+PartnerIs x Alone = x ≡ nobody
