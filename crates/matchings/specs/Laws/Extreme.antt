@@ -8,12 +8,11 @@ use Rattle.format.specs.Format.{people}
 use Rattle.format.specs.WellFormed.{WellFormed}
 use Rattle.stable_theory.specs.Stable.Vector.{Before}
 use Rattle.stable_theory.specs.Stable.Mirror.{mirror-of, mirror-order}
-use Rattle.stable_theory.specs.Matchings.MatchingLaws.{places-placed}
 use Rattle.stable_theory.specs.Least.Optimal.{proposer-optimal-stable, proposer-optimal-first, receiver-optimal-stable, receiver-optimal-last}
 use Rattle.matchings.specs.BookMarket.{market, market-proper}
-use Rattle.matchings.specs.Matching.{manRank, womanRank, womanOf, manOf, vectorOf, MatchingIn, StableIn}
+use Rattle.matchings.specs.Matching.{manRank, womanRank, womanOf, manOf, vectorOf, StableIn}
 use Rattle.matchings.specs.Extreme.{manOptimal, womanOptimal}
-use Rattle.matchings.specs.Laws.StableVector.{vector-stable, mirror-man, stable-of, vector-back}
+use Rattle.matchings.specs.Laws.StableVector.{place-rank, vector-stable, mirror-man, stable-of, vector-back}
 
 module _ {b : List ℕ} (W : WellFormed b) where
   -- the student-best matching is stable
@@ -25,11 +24,6 @@ module _ {b : List ℕ} (W : WellFormed b) where
   pub woman-optimal-stable : StableIn b (womanOptimal b)
   unfolding womanOptimal
   woman-optimal-stable = stable-of W (receiver-optimal-stable (market-proper W))
-
--- a student's place in a matching is the rank of his mentor
-place-rank : {b m : List ℕ} → MatchingIn b m → {i : ℕ} → i < people b → vectorOf b m i ≡ manRank b i (womanOf m i)
-unfolding market
-place-rank {b} {m} A {i} u = places-placed (market b) (womanOf m) i (A .names .below u)
 
 -- of two stable matchings, where every student is in m at least as well off as in k, every mentor is in k at least as
 -- well off as in m

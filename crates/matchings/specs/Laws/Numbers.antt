@@ -6,26 +6,35 @@ use native.Mathlib.Omega.{arith}
 use lib.ListN.{length}
 use lib.Dec.{ltb, eqb}
 use Rattle.laws.specs.Choice.{pick}
+use Rattle.laws.specs.First.{some}
 use Rattle.format.specs.Verdict.{fine, refused}
-use Rattle.format.specs.Format.{people}
-use Rattle.format.specs.Lists.{firstFaulty}
+use Rattle.format.specs.Format.{partial, people}
+use Rattle.format.specs.Lists.{firstClash}
 use Rattle.format.specs.Check.{checkBook}
-use Rattle.format.specs.Laws.Numbers.{numberOf, most, both-most, book-most}
-use Rattle.matchings.specs.Matching.{womanOf, lowestBlocking, checkNames, checkStable, checkMatching}
+use Rattle.format.specs.Laws.Numbers.{numberOf, NotTen, by-rule, by-both, below-ten, above-ten, book-number}
+use Rattle.matchings.specs.Matching.{womanOf, lowestBlocking, unlisted, checkListed, checkNames, checkStable, checkMatching}
 
--- a matching is refused by 8 or 9 before 10
-pub names-most : (n : ℕ) (m : List ℕ) → numberOf (checkNames n m) ≤ 9
+-- before 10 a matching is refused by 8, 9 or 19
+pub names-number : (t : Bool) (n : ℕ) (m : List ℕ) → NotTen (numberOf (checkNames t n m))
 unfolding checkNames
-names-most n m =
-    most 9 (not (eqb (length m) n)) 8 _ _ (omega arith) (most 9 (ltb (firstFaulty n (womanOf m) n) n) 9 _ _ (omega arith) (omega arith))
+names-number t n m =
+    by-rule NotTen (not (eqb (length m) n)) 8 _ _ (below-ten (omega arith))
+    (by-rule NotTen (ltb (firstClash t n (womanOf m) n) n) 9 _ fine (below-ten (omega arith)) (below-ten (omega arith)))
 
--- and then by 10
-pub matching-most : (b m : List ℕ) → numberOf (checkMatching b m) ≤ 10
+pub listed-number : (b m : List ℕ) → NotTen (numberOf (checkListed b m))
+unfolding checkListed
+listed-number b m =
+    by-rule NotTen (some (unlisted b m) (people b)) 19 0 fine (above-ten (omega arith) (omega arith)) (below-ten (omega arith))
+
+-- no number is above 19
+pub matching-most : (b m : List ℕ) → numberOf (checkMatching b m) ≤ 19
 unfolding checkMatching checkStable
 matching-most b m =
-    both-most 10 (checkBook b) _ (omega (arith, book-most b))
-    (both-most 10 (checkNames (people b) m) _ (omega (arith, names-most (people b) m)) (ten (ltb (lowestBlocking b m) (people b)) (lowestBlocking b m) _))
+    by-both (λ x. x ≤ 19) (checkBook b) _ (book-number b .0)
+    (by-both (λ x. x ≤ 19) (checkNames (partial b) (people b) m) _ (names-number (partial b) (people b) m .0)
+    (by-both (λ x. x ≤ 19) (checkListed b m) _ (listed-number b m .0)
+    (ten (ltb (lowestBlocking b m) (people b)) (lowestBlocking b m) _)))
   where
-    ten : (t : Bool) (i w : ℕ) → numberOf (pick t (refused 10 i w) fine) ≤ 10
+    ten : (t : Bool) (i w : ℕ) → numberOf (pick t (refused 10 i w) fine) ≤ 19
     ten true i w = omega arith
     ten false i w = omega arith

@@ -2,78 +2,66 @@
 -- rule 10 names the lowest blocking student and his best-ranked blocking mentor. Assumes nothing.
 use Prim.Native.Nat.{ℕ, _≤_, _<_}
 use mathlib.Core.Path.{_≡_, refl, sym, _∙_, ap, ap₂}
-use mathlib.Core.Bool.{true, not}
+use mathlib.Core.Bool.{true}
 use mathlib.Core.Logic.{_↔_}
 use mathlib.Core.List.{List}
 use native.Mathlib.Omega.{arith}
-use lib.ListN.{length}
-use lib.Dec.{ltb, eqb}
-use borrow.Author.Tests.{lt-ltb, le-ltb, ltb-true, ltb-false, eq-eqb, eqb-true, not-false}
+use lib.Dec.{ltb}
+use borrow.Author.Tests.{lt-ltb, le-ltb, ltb-true, ltb-false}
 use Rattle.laws.specs.Choice.{split}
-use Rattle.laws.specs.Both.{both-left, both-right, both-true}
-use Rattle.laws.specs.First.{first-hit, first-miss, clash}
+use Rattle.laws.specs.Both.{both-left}
+use Rattle.laws.specs.First.{first-hit, first-miss}
 use Rattle.laws.specs.Cycle.{first-upto}
 use Rattle.format.specs.Verdict.{Verdict, fine, refused}
-use Rattle.format.specs.Laws.Verdict.{refuses, rule-fine}
-use Rattle.format.specs.Format.{people}
-use Rattle.format.specs.Lists.{firstFaulty}
-use Rattle.format.specs.Laws.Faults.{faultless}
+use Rattle.format.specs.Laws.Verdict.{refuses}
+use Rattle.format.specs.Format.{partial, people}
 use Rattle.format.specs.Check.{checkBook}
 use Rattle.format.specs.WellFormed.{WellFormed, fine-well-formed}
-use Rattle.format.specs.Laws.Numbers.{numberOf, book-most, all-past}
-use Rattle.stable_theory.specs.Matchings.Perfect.{lists-all}
-use Rattle.matchings.specs.BookMarket.{market, market-proper, market-complete}
-use Rattle.matchings.specs.Matching.{manRank, womanRank, manChoice, womanOf, manOf, blocks, bestBlocking, lowestBlocking, checkNames, checkStable, checkMatching, MatchingIn, StableIn, UnstableIn}
-use Rattle.matchings.specs.Laws.Numbers.{names-most}
+use Rattle.format.specs.Laws.Numbers.{numberOf, book-number, all-past}
+use Rattle.matchings.specs.BookMarket.{market, market-proper}
+use Rattle.matchings.specs.Matching.{manRank, manLength, listEachOther, manChoice, blocks, bestBlocking, lowestBlocking, checkListed, checkNames, checkStable, checkMatching, MatchingIn, StableIn, UnstableIn}
+use Rattle.matchings.specs.Laws.Numbers.{names-number, listed-number}
+use Rattle.matchings.specs.Laws.Entries.{each-acceptable, names-matching, matching-names}
 
--- blocking in words: both rank each other above their partners
-pub blocks-words : (b m : List ℕ) (i w : ℕ) → blocks b m i w ≡ true ↔ ((manRank b i w < manRank b i (womanOf m i)) × (womanRank b w i < womanRank b w (manOf (people b) m w)))
+-- a student who blocks with a mentor lists her
+blocks-lists : (b m : List ℕ) {i w : ℕ} → i < people b → w < people b → blocks b m i w ≡ true → manRank b i w < manLength b i
 unfolding blocks
-blocks-words b m i w = (
-  λ e. (ltb-true _ _ (both-left (ltb (manRank b i w) (manRank b i (womanOf m i))) _ e), ltb-true _ _ (both-right (ltb (manRank b i w) (manRank b i (womanOf m i))) _ e)),
-  λ h. both-true (lt-ltb _ _ (h .0)) (lt-ltb _ _ (h .1)),
-)
+blocks-lists b m {i} {w} u v e = each-acceptable b u v (both-left (listEachOther b i w) _ e) .lists
 
 module _ {b : List ℕ} (W : WellFormed b) where
-  -- a mentor has a place on every student's list, and stands there
-  pub rank-lt : {i w : ℕ} → i < people b → w < people b → manRank b i w < people b
+  -- a mentor stands at her place on the list of a student who lists her
+  pub choice-at : {i w : ℕ} → i < people b → w < people b → manRank b i w < manLength b i → manChoice b i (manRank b i w) ≡ w
   unfolding market
-  rank-lt u v = omega (arith, market-complete W .proposing u, lists-all (market-proper W) (market-complete W) u v .lists)
-
-  pub choice-at : {i w : ℕ} → i < people b → w < people b → manChoice b i (manRank b i w) ≡ w
-  unfolding market
-  choice-at u v = market-proper W .proposing .at-place u v (lists-all (market-proper W) (market-complete W) u v .lists)
+  choice-at u v l = market-proper W .proposing .at-place u v l
 
   -- who stands at a place has that place
-  pub rank-choice : {i k : ℕ} → i < people b → k < people b → (manChoice b i k < people b) × (manRank b i (manChoice b i k) ≡ k)
+  pub rank-choice : {i k : ℕ} → i < people b → k < manLength b i → (manChoice b i k < people b) × (manRank b i (manChoice b i k) ≡ k)
   unfolding market
-  rank-choice {i} {k} u l =
-      let h : k < market b .proposers .len i = omega (arith, market-complete W .proposing u) in
-      (market-proper W .proposing .at-lt u h, market-proper W .proposing .place-at u h)
+  rank-choice u l = (market-proper W .proposing .at-lt u l, market-proper W .proposing .place-at u l)
 
   module _ (m : List ℕ) where
     -- a student's search for a mentor with whom he blocks stops at or before each of them
     best-upto : {i w : ℕ} → i < people b → w < people b → blocks b m i w ≡ true → bestBlocking b m i ≤ manRank b i w
     unfolding bestBlocking
     best-upto {i} {w} u v e =
-        first-upto (λ k. blocks b m i (manChoice b i k)) (people b) (ap (blocks b m i) (choice-at u v) ∙ e)
+        first-upto (λ k. blocks b m i (manChoice b i k)) (manLength b i) (ap (blocks b m i) (choice-at u v (blocks-lists b m u v e)) ∙ e)
 
     -- and where it stops, he blocks
-    best-blocks : (i : ℕ) → bestBlocking b m i < people b → blocks b m i (manChoice b i (bestBlocking b m i)) ≡ true
+    best-blocks : (i : ℕ) → bestBlocking b m i < manLength b i → blocks b m i (manChoice b i (bestBlocking b m i)) ≡ true
     unfolding bestBlocking
-    best-blocks i h = first-hit (λ k. blocks b m i (manChoice b i k)) (people b) h
+    best-blocks i h = first-hit (λ k. blocks b m i (manChoice b i k)) (manLength b i) h
 
     -- before the lowest blocking student no student blocks
     none-below : (j v : ℕ) → j < lowestBlocking b m → j < people b → v < people b → blocks b m j v ≡ true → ⊥
     unfolding lowestBlocking
     none-below j v h u w e =
-        let l : people b ≤ bestBlocking b m j = ltb-false _ _ (first-miss (λ i. ltb (bestBlocking b m i) (people b)) (people b) j h) in
-        omega (arith, best-upto u w e, rank-lt u w)
+        let l : manLength b j ≤ bestBlocking b m j = ltb-false _ _ (first-miss (λ i. ltb (bestBlocking b m i) (manLength b i)) (people b) j h) in
+        omega (arith, best-upto u w e, blocks-lists b m u w e)
 
     -- he blocks
-    pub lowest-best : lowestBlocking b m < people b → bestBlocking b m (lowestBlocking b m) < people b
+    pub lowest-best : lowestBlocking b m < people b → bestBlocking b m (lowestBlocking b m) < manLength b (lowestBlocking b m)
     unfolding lowestBlocking
-    lowest-best h = ltb-true _ _ (first-hit (λ i. ltb (bestBlocking b m i) (people b)) (people b) h)
+    lowest-best h = ltb-true _ _ (first-hit (λ i. ltb (bestBlocking b m i) (manLength b i)) (people b) h)
 
     -- and stands at or before every student who does
     lowest-upto : {i w : ℕ} → i < people b → w < people b → blocks b m i w ≡ true → lowestBlocking b m ≤ i
@@ -98,30 +86,16 @@ module _ {b m : List ℕ} {i j w v : ℕ} (S : UnstableIn b m i w) (R : Unstable
       split (manRank b i v) (manRank b i w)
       (λ k.
       let q : manRank b i w ≡ manRank b i v = omega arith in
-      sym (choice-at W (S .student) (S .mentor)) ∙ ap (manChoice b i) q ∙ choice-at W (S .student) (R .mentor))
+      sym (choice-at W (S .student) (S .mentor) (blocks-lists b m (S .student) (S .mentor) (S .blocking)))
+      ∙ ap (manChoice b i) q
+      ∙ choice-at W (S .student) (R .mentor) (blocks-lists b m (S .student) (R .mentor) (R′ .blocking)))
       (λ k. absurd (R′ .best w (S .mentor) k (S .blocking))))
       (λ l. absurd (S .best v (R .mentor) l (R′ .blocking)))
-
--- where nothing is refused in the book and by rules 8 and 9, m is a matching; and back
-pub names-matching : {b m : List ℕ} → checkBook b ≡ fine → checkNames (people b) m ≡ fine → MatchingIn b m
-unfolding checkNames
-names-matching {b} {m} e f =
-    let size = rule-fine (not (eqb (length m) (people b))) 8 0 _ f in
-    let clash = rule-fine (ltb (firstFaulty (people b) (womanOf m) (people b)) (people b)) 9 _ _ (size .1) in
-    record {
-      formed = fine-well-formed b .0 e;
-      long = eqb-true _ _ (not-false _ (size .0));
-      names = faultless (people b) (womanOf m) (people b) .0 (ltb-false _ _ (clash .0));
-    }
-
-matching-names : {b m : List ℕ} → MatchingIn b m → checkNames (people b) m ≡ fine
-unfolding checkNames
-matching-names {b} {m} A = rw (eq-eqb _ _ (A .long), le-ltb _ _ (faultless (people b) (womanOf m) (people b) .1 (A .names)))
 
 -- of a matching rule 10 is left
 pub matching-stable : {b m : List ℕ} → MatchingIn b m → checkMatching b m ≡ checkStable b m
 unfolding checkMatching
-matching-stable {b} {m} A = rw (fine-well-formed b .1 (A .formed), matching-names A)
+matching-stable {b} {m} A = rw (fine-well-formed b .1 (A .formed), matching-names A .0, matching-names A .1)
 
 module _ (b m : List ℕ) where
   -- the best-ranked blocking mentor of the lowest blocking student
@@ -153,13 +127,17 @@ module _ (b m : List ℕ) where
         best = λ v x u y. omega (arith, c .1, best-upto W m l x y);
       }
 
-  -- a verdict by no rule of 1 to 9 is on a matching
-  past-nine : {v : Verdict} → ((number place second : ℕ) → number < 10 → v ≡ refused number place second → ⊥) → checkMatching b m ≡ v → MatchingIn b m
+  -- a verdict that is rule 10's or finds nothing is on a matching
+  past-others :
+      {v : Verdict} → ((number place second : ℕ) → (number ≡ 10 → ⊥) → v ≡ refused number place second → ⊥) → checkMatching b m ≡ v → MatchingIn b m
   unfolding checkMatching
-  past-nine n e =
-      let book = all-past (checkBook b) _ (λ number place second f. n number place second (omega (arith, book-most b, ap numberOf f))) e in
-      let names = all-past (checkNames (people b) m) _ (λ number place second f. n number place second (omega (arith, names-most (people b) m, ap numberOf f))) (book .1) in
-      names-matching (book .0) (names .0)
+  past-others n e =
+      let book = all-past (checkBook b) _ (λ number place second f. n number place second (λ t. book-number b .1 (ap numberOf f ∙ t))) e in
+      let names = all-past (checkNames (partial b) (people b) m) _
+      (λ number place second f. n number place second (λ t. names-number (partial b) (people b) m .1 (ap numberOf f ∙ t))) (book .1) in
+      let listed = all-past (checkListed b m) _
+      (λ number place second f. n number place second (λ t. listed-number b m .1 (ap numberOf f ∙ t))) (names .1) in
+      names-matching (book .0) (names .0) (listed .0)
 
   -- Nothing is refused exactly where m is a matching of a well formed book and no pair blocks it
   pub fine-stable : checkMatching b m ≡ fine ↔ StableIn b m
@@ -167,7 +145,7 @@ module _ (b m : List ℕ) where
     where
       to : checkMatching b m ≡ fine → StableIn b m
       to e =
-          let A = past-nine (λ number place second h f. refuses f refl) e in
+          let A = past-others (λ number place second h f. refuses f refl) e in
           record {
             matching = A;
             unblocked = λ i w u v x.
@@ -188,7 +166,7 @@ module _ (b m : List ℕ) where
     where
       to : checkMatching b m ≡ refused 10 i w → UnstableIn b m i w
       to e =
-          let A = past-nine (λ number place second h f. let z = ap numberOf f in omega arith) e in
+          let A = past-others (λ number place second h f. h (sym (ap numberOf f))) e in
           split (people b) (lowestBlocking b m) (λ l. absurd (refuses e (matching-stable A ∙ none-blocking l)))
           (λ l.
           let f = sym (matching-stable A ∙ some-blocking l) ∙ e in
