@@ -1,6 +1,6 @@
 -- The market of a record, and what the functions that are lent its tables ask of it. Assumes nothing.
 use Prim.Native.Nat.{_≤_}
-use Rattle.stable_theory.specs.Stable.Market.{Market, Complete}
+use Rattle.stable_theory.specs.Stable.Market.{Market}
 use Rattle.tables.specs.Lists.{Tables, tablesOf, market, Sound}
 use Rattle.format.specs.Format.{largest}
 use Rattle.format.specs.Record.{Record}
@@ -16,10 +16,8 @@ byWomen r = tablesOf (r .n) (r .n) (r .wlists) (r .mlists) (r .mranks)
 abbrev pub marketIn : Record → Market
 marketIn r = market (byMen r)
 
--- The record can be worked on: there are few enough persons, the tables are sound whoever proposes, and everybody
--- lists everybody
+-- The record can be worked on: there are few enough persons, and the tables are sound whoever proposes
 pub record Usable (r : Record) : Type 0 where
   pub few : r .n ≤ largest
   pub men : Sound (byMen r)
   pub women : Sound (byWomen r)
-  pub complete : Complete (marketIn r)

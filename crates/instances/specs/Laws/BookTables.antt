@@ -9,18 +9,14 @@ use Rattle.laws.specs.First.{first, first-cong}
 use Rattle.stable_theory.specs.Stable.Market.{Proper, exchanged}
 use Rattle.stable_theory.specs.Stable.Alike.{AlikeSide, Alike, proper-alike}
 use Rattle.tables.specs.Lists.{sideOf, atIn, lenIn, Stored, Agrees, Sound}
-use Rattle.format.specs.Format.{people, listLength}
+use Rattle.format.specs.Format.{people, listLength, place}
 use Rattle.format.specs.WellFormed.{WellFormed}
-use Rattle.format.specs.Place.{place}
 use Rattle.format.specs.Record.{Record, SideTables, RecordIs}
-use Rattle.format.specs.Ranks.{length-full, list-lt}
+use Rattle.format.specs.Ranks.{length-most, list-lt}
 use Rattle.matchings.specs.BookMarket.{sideAt, market, market-proper}
 use Rattle.instances.specs.Usable.{byMen, byWomen, marketIn, Usable}
 
 module _ {b lists ranks : List ℕ} {n from : ℕ} (W : WellFormed b) (e : n ≡ people b) (h : from ≤ n) (S : SideTables b n from lists ranks) where
-  full : {i : ℕ} → i < n → lenIn n n lists i ≡ n
-  full u = length-full W e h S u
-
   len-at : {i : ℕ} → i < n → lenIn n n lists i ≡ listLength b (from + i)
   len-at u = S .lengths u
 
@@ -30,10 +26,10 @@ module _ {b lists ranks : List ℕ} {n from : ℕ} (W : WellFormed b) (e : n ≡
       record {
         size = e;
         len = λ u. len-at u;
-        at = λ {i} {k} u l. S .entries u (omega (arith, full u));
+        at = λ {i} {k} u l. S .entries u (omega (arith, len-at u));
         place = λ {i} {w} u v.
             ap (first (λ k. eqb (atIn n lists i k) w)) (len-at u)
-            ∙ first-cong (λ k (l : k < listLength b (from + i)). ap (λ (x : ℕ). eqb x w) (S .entries u (omega (arith, full u, len-at u))));
+            ∙ first-cong (λ k (l : k < listLength b (from + i)). ap (λ (x : ℕ). eqb x w) (S .entries u l));
       }
 
   -- and are stored as the kernel needs them
@@ -41,8 +37,8 @@ module _ {b lists ranks : List ℕ} {n from : ℕ} (W : WellFormed b) (e : n ≡
   side-stored =
       record {
         rows = S .lists-long;
-        short = λ u. omega (arith, full u);
-        small = λ {i} {k} u l. list-lt W e h S u (omega (arith, full u));
+        short = λ u. length-most W e h S u;
+        small = λ {i} {k} u l. list-lt W e h S u l;
       }
 
   -- the ranks agree with the side
@@ -94,9 +90,4 @@ module _ {b : List ℕ} {r : Record} (W : WellFormed b) (T : RecordIs b (people 
         few = omega (arith, T .number, W .few);
         men = sound-men;
         women = sound-women;
-        complete = record {
-          even = refl;
-          proposing = λ u. full W (T .number) (omega arith) (numbered .men) u;
-          receiving = λ u. full W (T .number) (omega arith) (numbered .women) u;
-        };
       }
