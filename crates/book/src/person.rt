@@ -1,13 +1,13 @@
 // One person's list, and the check beside it. The men are side 0 and the women side 1: person `number` of a side has
 // list `side * n + number`.
-use crate::directory::people_in;
-use crate::field::list_of;
-use crate::field::wide;
-use crate::refusal::refuse;
 use crate::rules::check;
+use directory::list_of;
+use directory::people_in;
 use format::Checked;
 use format::Man;
 use format::Woman;
+use rows::refuse;
+use rows::wide;
 ghost use mathlib.Core.Path.{_≡_};
 ghost use Prim.Native.Nat.{_+_, _*_, _<_};
 ghost use Rattle.laws.specs.Moment.{now₀};

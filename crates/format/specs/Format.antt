@@ -1,6 +1,6 @@
 -- The book of document 01, byte by byte, and the rows of entries and of marks that go with it. Only this crate and
--- `book`, `writer` and `record` open these definitions, and `worked`, which computes them; elsewhere stand the names
--- and their laws (Laws.Rows). Assumes nothing.
+-- `rows`, `directory`, `book`, `writer` and `record` open these definitions, and `worked`, which computes them;
+-- elsewhere stand the names and their laws (Laws.Rows, Laws.Extent). Assumes nothing.
 use Prim.Native.Nat.{ℕ, zero, suc, _+_, _*_, _<_, max}
 use mathlib.Core.Bool.{Bool}
 use mathlib.Core.List.{List, [], _∷_}

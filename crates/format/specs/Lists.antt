@@ -1,5 +1,5 @@
--- Rules 6 and 7: strangers and repeats in lists, and rule 9, the same in a matching. A list is a function from places to
--- entries. Assumes nothing.
+-- Rules 6 and 7: strangers and repeats in lists, and rule 9, the same in a matching. A list is a function from places
+-- to entries. Assumes nothing.
 use Prim.Native.Nat.{ℕ, _+_}
 use mathlib.Core.Bool.{Bool, not}
 use lib.Dec.{leb, ltb, eqb}
@@ -24,8 +24,8 @@ faulty n l j = either (stranger n l j) (repeat l j)
 unfoldable pub firstFaulty : ℕ → (ℕ → ℕ) → ℕ → ℕ
 firstFaulty n l len = first (faulty n l) len
 
--- Entry j of a matching breaks rule 9: it is faulty, and is not that of a student without a mentor where students may be
--- alone
+-- Entry j of a matching breaks rule 9: it is faulty, and is not that of a student without a mentor where students may
+-- be alone
 abbrev pub clashes : Bool → ℕ → (ℕ → ℕ) → ℕ → Bool
 clashes alone n l j = both (not (both alone (eqb (l j) nobody))) (faulty n l j)
 

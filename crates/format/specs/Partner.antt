@@ -1,4 +1,4 @@
--- Whom a man has in a matching. Assumes nothing.
+-- Whom a man has in a matching, and the entry that says it. Assumes nothing.
 use Prim.Native.Nat.{ℕ}
 use mathlib.Core.Path.{_≡_}
 use Rattle.format.specs.declared.people.Partner.{Partner}
@@ -9,3 +9,8 @@ use Rattle.format.specs.Format.{nobody}
 abbrev pub PartnerIs : ℕ → Partner → Type 0
 PartnerIs x (With w) = (x ≡ w .0) × (x ≡ nobody → ⊥)
 PartnerIs x Alone = x ≡ nobody
+
+-- The entry of a matching that stands for a partner
+abbrev pub entryFor : Partner → ℕ
+entryFor (With w) = w .0
+entryFor Alone = nobody

@@ -1,5 +1,5 @@
--- The rank table and the list table of a side are inverse, for every n: the rank of whoever stands on a list is where he
--- stands, and who does not stand on it has the list's length for a rank. Assumes nothing.
+-- The rank table and the list table of a side are inverse, for every n: the rank of whoever stands on a list is where
+-- he stands, and who does not stand on it has the list's length for a rank. Assumes nothing.
 use Prim.Native.Nat.{ℕ, _+_, _<_, _≤_}
 use mathlib.Core.Path.{_≡_, _∙_, ap}
 use mathlib.Core.List.{List}

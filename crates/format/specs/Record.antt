@@ -60,8 +60,8 @@ pub record RecordIs (b : List ℕ) (n : ℕ) (r : Record) : Type 0 where
   pub men : SideTables b n 0 (r .mlists) (r .mranks)
   pub women : SideTables b n n (r .wlists) (r .wranks)
 
--- What is made of a book: the check's answer, whether lists may be short, n, and the tables; on a refusal n is 0, so that the cells may hold
--- anything
+-- What is made of a book: the check's answer, whether lists may be short, n, and the tables; on a refusal n is 0, so
+-- that the cells may hold anything
 pub record Recorded (b : List ℕ) (i : Instance) (r : Record) : Type 0 where
   pub checked : verdictOf (i .checked) ≡ checkBook b
   pub partial : i .partial ≡ partial b

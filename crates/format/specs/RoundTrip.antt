@@ -63,8 +63,8 @@ book-of-lists b B e q =
     let W = formed-complete (fine-well-formed b .0 e) q in
     ext-getD 0 (bookOf (people b) (listBytes b)) b (written-size (people b) (listBytes b) (list-count b W) ∙ sym (W .long)) (λ i h. byte-own b W B i)
 
--- Equal lists mean equal bytes, within one edition: books of one edition and one n whose lists have the same lengths and
--- the same entries
+-- Equal lists mean equal bytes, within one edition: books of one edition and one n whose lists have the same lengths
+-- and the same entries
 pub equal-lists-equal-bytes :
     (b c : List ℕ) → Bytes b → Bytes c → checkBook b ≡ fine → checkBook c ≡ fine → edition b ≡ edition c → people b ≡ people c →
     ((k : ℕ) → k < 2 * people b → listLength b k ≡ listLength c k) →

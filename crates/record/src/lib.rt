@@ -2,6 +2,7 @@
 // and the laws of their loops.
 mod lists;
 mod ranks;
+mod short;
 mod tables;
 
 pub use tables::load;

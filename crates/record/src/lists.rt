@@ -16,7 +16,7 @@ pub fn fill_lists(bytes: &[u8], n: usize, lists: &mut [u16])
 }
 
 // Stores the bytes one after the other, from the front on.
-fn copy_entries(bytes: &[u8], lists: &mut [u16])
+pub(crate) fn copy_entries(bytes: &[u8], lists: &mut [u16])
     requires { ⌜ length (now bytes) ≤ length (now lists) ⌝ }
     ensures { λ _. ⌜ Stores 0 (length (now₀ bytes)) (λ j. j) (vec₀ bytes) (now₀ lists) (now₁ lists) ⌝ }
 {

@@ -1,7 +1,7 @@
 // Fills a table of ranks, whose cells hold no place before: where a cell is left so the list of its row does not name
 // the person of its column.
-use book::wide;
 use format::Instance;
+use rows::wide;
 ghost use mathlib.Core.Path.{_≡_};
 ghost use Prim.Native.Nat.{_*_, _≤_};
 ghost use lib.ListN.{length};
@@ -9,7 +9,7 @@ ghost use lib.Dec.{ltb};
 ghost use Rattle.laws.specs.Every.{every};
 ghost use Rattle.laws.specs.Moment.{now₀, now₁, vec₀, vec₁};
 ghost use Rattle.format.specs.Record.{vacant};
-ghost use Rattle.record.specs.Filling.{Block, ListRanked, RanksFilled, RankRows, RowSource};
+ghost use Rattle.record.specs.Filling.{Block, ListRanked, RanksFilled, RankRows, RowSource, Unranked};
 
 // Fills a table of ranks from the bytes of n lists, and says whether each list names everybody.
 pub fn rank_lists(bytes: &[u8], n: usize, ranks: &mut [u16]) -> bool
@@ -34,10 +34,10 @@ fn rank_rows(bytes: &[u8], n: usize, ranks: &mut [u16])
     }
 }
 
-// Fills one row: the place of each entry of the list goes to the cell that the entry names.
-fn rank_row(list: &[u8], row: &mut [u16])
-    requires { ⌜ RowSource (now list) (now row) ⌝ }
-    ensures { λ _. ⌜ ListRanked (length (now₀ list)) (length (now₀ list)) (vec₀ list) (vec₁ row) ⌝ }
+// Ranks one list: the place of each entry goes to the cell of the row that the entry names.
+pub(crate) fn rank_row(list: &[u8], row: &mut [u16])
+    requires { ⌜ RowSource (now list) (now row) × Unranked (now list) (now row) ⌝ }
+    ensures { λ _. ⌜ ListRanked (length (now₀ row)) (length (now₀ list)) (vec₀ list) (vec₀ row) (vec₁ row) ⌝ }
 {
     let mut j = 0;
     while j < list.len() {

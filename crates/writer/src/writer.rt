@@ -1,10 +1,10 @@
-// The writer: a book from n and 2 × n × n list bytes.
-use book::bytes_at;
-use book::check_list;
-use book::refuse;
-use book::size_of;
+// The writer: a book of edition 1 from n and 2 × n × n list bytes.
+use directory::bytes_at;
+use directory::size_of;
 use format::Checked;
 use format::Instance;
+use rows::check_list;
+use rows::refuse;
 ghost use mathlib.Core.Path.{_≡_};
 ghost use mathlib.Core.List.{_++_};
 ghost use Prim.Native.Nat.{_+_, _*_, _<_, _≤_};

@@ -1,7 +1,8 @@
--- The largest entry of the lists of a book with a right frame: all entries are below n where it is, and otherwise the
--- book is refused. Assumes nothing.
+-- The largest entry of complete lists of a book with a right frame: all entries are below n where it is, and otherwise
+-- the book is refused. Assumes nothing.
 use Prim.Native.Nat.{ℕ, _+_, _*_, _-_, _≤_, _<_}
 use mathlib.Core.Path.{_≡_, _∙_, ap}
+use mathlib.Core.Bool.{false}
 use mathlib.Core.List.{List}
 use native.Mathlib.Omega.{arith}
 use lib.ListN.{length}
@@ -9,10 +10,11 @@ use Rattle.laws.specs.Maximum.{maximum, maximum-ge, maximum-le}
 use Rattle.laws.specs.Table.{cell, cell-lt, in-rows}
 use Rattle.laws.specs.Values.{vec}
 use Rattle.format.specs.Verdict.{fine}
-use Rattle.format.specs.Format.{entry}
+use Rattle.format.specs.Format.{partial, entry}
 use Rattle.format.specs.Check.{checkBook}
-use Rattle.format.specs.Frame.{RightFrame, RightEntries, ListsFrom}
+use Rattle.format.specs.Frame.{RightEntries, ListsFrom}
 use Rattle.format.specs.Laws.Frame.{fine-names}
+use Rattle.format.specs.Laws.Stages.{RightFrame}
 
 -- where n is 0 there are no entries
 pub none-below : {b : List ℕ} {n : ℕ} → RightFrame b n → n ≡ 0 → RightEntries b n
@@ -33,11 +35,11 @@ module _ {b l : List ℕ} {n most : ℕ} (F : RightFrame b n) (L : ListsFrom b n
       }
 
   -- or one is not, and the book is refused
-  pub some-above : (n ≡ 0 → ⊥) → n ≤ most → checkBook b ≡ fine → ⊥
-  some-above ne h e = omega (arith, maximum-le (length l) (vec l) (n - 1) small)
+  pub some-above : partial b ≡ false → (n ≡ 0 → ⊥) → n ≤ most → checkBook b ≡ fine → ⊥
+  some-above complete ne h e = omega (arith, maximum-le (length l) (vec l) (n - 1) small)
     where
       small : (p : ℕ) → p < length l → vec l p ≤ n - 1
       small p u =
           let r = in-rows n (2 * n) p (omega (arith, L .long)) in
           let v = r .column-lt in
-          omega (arith, ap (vec l) (r .index), entry-at (r .row-lt) v, fine-names F e (r .row-lt) .below v)
+          omega (arith, ap (vec l) (r .index), entry-at (r .row-lt) v, fine-names F complete e (r .row-lt) .below v)

@@ -1,5 +1,5 @@
--- The list bytes of a well formed book of edition 1: how many there are, that they hold its lists and can be written again, and
--- that every byte of what is then written is the book's own. Assumes nothing.
+-- The list bytes of a well formed book of edition 1: how many there are, that they hold its lists and can be written
+-- again, and that every byte of what is then written is the book's own. Assumes nothing.
 use Prim.Native.Nat.{ℕ, zero, suc, _+_, _*_, _-_, _≤_, _<_}
 use mathlib.Core.Path.{_≡_, refl, sym, _∙_, ap}
 use mathlib.Core.List.{List}

@@ -8,21 +8,23 @@ use lib.ListN.{length, take, drop}
 use Rattle.laws.specs.Choice.{split}
 use Rattle.laws.specs.Table.{cell, cell-lt, row-end}
 use Rattle.laws.specs.Values.{vec}
+use Rattle.format.specs.Record.{vacant}
 use Rattle.format.specs.Laws.Holds.{Holds, part-holds}
-use Rattle.record.specs.Filling.{Block, ListRanked, RankRows, RowSource}
+use Rattle.record.specs.Filling.{Block, ListRanked, RankRows, RowSource, Unranked}
 use Rattle.record.specs.Laws.Parts.{PartBack, part-back}
 
--- ranks that agree below n, on lists that agree before m
+-- ranks that agree below n, now and before, on lists that agree before m
 ranked-agree :
-    {n m : ℕ} {l rank l′ rank′ : ℕ → ℕ} → ListRanked n m l rank → ((j : ℕ) → j < m → l′ j ≡ l j) → ((v : ℕ) → v < n → rank′ v ≡ rank v)
-    → ((j : ℕ) → j < m → l j < n) → ListRanked n m l′ rank′
-ranked-agree {n} {m} {l} {rank} {l′} {rank′} R same-list same-rank below =
+    {n m : ℕ} {l before rank l′ before′ rank′ : ℕ → ℕ} → ListRanked n m l before rank → ((j : ℕ) → j < m → l′ j ≡ l j)
+    → ((v : ℕ) → v < n → before′ v ≡ before v) → ((v : ℕ) → v < n → rank′ v ≡ rank v) → ((j : ℕ) → j < m → l j < n)
+    → ListRanked n m l′ before′ rank′
+ranked-agree {n} {m} {l} {before} {rank} {l′} {before′} {rank′} R same-list same-before same-rank below =
     record {
       stands = λ {v} u h.
           let e = same-rank v u in
           let k : rank v < m = omega arith in
           ap l′ e ∙ same-list (rank v) k ∙ R .stands u k;
-      left = λ {v} u h. let e = same-rank v u in e ∙ R .left u (omega arith);
+      left = λ {v} u h. let e = same-rank v u in e ∙ R .left u (omega arith) ∙ sym (same-before v u);
       met = λ {j} u. omega (arith, ap rank′ (same-list j u), same-rank (l j) (below j u), R .met u);
     }
 
@@ -41,32 +43,37 @@ module _ {n i k : ℕ} {l ranks : List ℕ} (B : Block n l) (T : RankRows n l i 
   row-holds : Holds (λ v. cell ranks n i v) k (rowOf n ranks i k)
   row-holds = part-holds ranks (i * n) k (omega (arith, within, T .room)) refl
 
+  -- no cell of the row is filled
+  vacant-row : (v : ℕ) → v < k → vec (rowOf n ranks i k) v ≡ vacant
+  vacant-row v u = row-holds .entries v u ∙ T .blank (omega arith) h (omega arith)
+
   -- the next list and its row of the table
-  pub row-source : RowSource (rowOf n l i k) (rowOf n ranks i k)
-  row-source =
-      record {
-        few = omega (arith, list-holds .long, B .few);
-        below = λ {j} u.
-            let v : j < k = omega (arith, list-holds .long) in
-            omega (arith, list-holds .long, list-holds .entries j v, B .below {i = i} {j = j} h (omega arith));
-        same = row-holds .long ∙ sym (list-holds .long);
-        blank = λ {v} u.
-            let w : v < k = omega (arith, list-holds .long) in
-            row-holds .entries v w ∙ T .blank (omega arith) h (omega arith);
-      }
+  pub row-source : RowSource (rowOf n l i k) (rowOf n ranks i k) × Unranked (rowOf n l i k) (rowOf n ranks i k)
+  row-source = (
+    record {
+      few = omega (arith, list-holds .long, B .few);
+      below = λ {j} u.
+          let v : j < k = omega (arith, list-holds .long) in
+          omega (arith, row-holds .long, list-holds .entries j v, B .below {i = i} {j = j} h (omega arith));
+    },
+    λ v u. omega (arith, list-holds .long, vacant-row v (omega (arith, row-holds .long)), B .few),
+  )
 
   -- that row is filled
   module _
-      (row : List ℕ) (R : ListRanked (length (rowOf n l i k)) (length (rowOf n l i k)) (vec (rowOf n l i k)) (vec row))
+      (row : List ℕ)
+      (R : ListRanked (length (rowOf n ranks i k)) (length (rowOf n l i k)) (vec (rowOf n l i k)) (vec (rowOf n ranks i k)) (vec row))
       (e : length row ≡ length (rowOf n ranks i k)) where
     back : PartBack (i * n) k ranks row (putMid (i * n) k ranks row)
     back = part-back (i * n) k ranks row (omega (arith, within, T .room)) (e ∙ row-holds .long)
 
-    here : ListRanked n n (λ j. cell l n i j) (λ v. cell (putMid (i * n) k ranks row) n i v)
+    here : ListRanked n n (λ j. cell l n i j) (λ v. vacant) (λ v. cell (putMid (i * n) k ranks row) n i v)
     here =
         ranked-agree
-        (subst (λ (m : ℕ). ListRanked m m (vec (rowOf n l i k)) (vec row)) (list-holds .long ∙ q) R)
+        (subst (λ (m : ℕ). ListRanked n m (vec (rowOf n l i k)) (vec (rowOf n ranks i k)) (vec row)) (list-holds .long ∙ q)
+        (subst (λ (m : ℕ). ListRanked m (length (rowOf n l i k)) (vec (rowOf n l i k)) (vec (rowOf n ranks i k)) (vec row)) (row-holds .long ∙ q) R))
         (λ j u. sym (list-holds .entries j (omega arith)))
+        (λ v u. sym (vacant-row v (omega arith)))
         (λ v u. back .here (omega arith))
         (λ j u. omega (arith, list-holds .entries j (omega arith), B .below h u))
 
@@ -82,9 +89,9 @@ module _ {n i k : ℕ} {l ranks : List ℕ} (B : Block n l) (T : RankRows n l i 
               split i x
               (λ w.
               let z : i ≡ x = omega arith in
-              subst (λ (y : ℕ). ListRanked n n (λ j. cell l n y j) (λ v. cell (putMid (i * n) k ranks row) n y v)) z here)
+              subst (λ (y : ℕ). ListRanked n n (λ j. cell l n y j) (λ v. vacant) (λ v. cell (putMid (i * n) k ranks row) n y v)) z here)
               (λ w.
-              ranked-agree (T .done w) (λ j r. refl) (λ v r. back .before (cell-lt w r))
+              ranked-agree (T .done w) (λ j r. refl) (λ v r. refl) (λ v r. back .before (cell-lt w r))
               (λ j r. B .below (omega arith) r));
           blank = λ {i = x} {v} u w r. back .after (omega (arith, row-end n {k = i} {m = x} (omega arith))) ∙ T .blank (omega arith) w r;
           room = omega (arith, T .room, row-same);

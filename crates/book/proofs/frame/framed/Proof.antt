@@ -1,12 +1,14 @@
 -- `framed` meets its contract: a frame that is not right is refused, and with a right one the largest entry tells.
 -- Assumes nothing.
-use mathlib.Core.Path.{_∙_, ap}
+use Prim.Native.Nat.{ℕ}
+use mathlib.Core.Path.{_≡_, sym, _∙_, ap, subst⁻¹}
+use mathlib.Core.List.{List}
 use native.Mathlib.Omega.{arith}
 use borrow.Author.Needs.{needs}
-use Rattle.format.specs.Verdict.{verdictOf}
-use Rattle.format.specs.Frame.{RightFrame}
-use Rattle.format.specs.Laws.Verdict.{refuses}
-use Rattle.format.specs.Laws.Frame.{frame-right}
+use Rattle.format.specs.Verdict.{fine, verdictOf}
+use Rattle.format.specs.Check.{checkFrame, checkBook}
+use Rattle.format.specs.Laws.Verdict.{refuses, all-fine}
+use Rattle.format.specs.Laws.Stages.{RightFrame, frame-right}
 use Rattle.book.specs.Laws.Entries.{none-below, all-below, some-above}
 use Rattle.book.proofs.frame.framed.Statement.{statement}
 use Rattle.book.proofs.frame.framed.Tie as tie
@@ -18,24 +20,29 @@ start c = search
 abbrev read : tie.After-wide → tie.After-people-in
 read c = search
 
+-- nothing is refused only where the frame is not
+fine-frame : (b : List ℕ) → checkBook b ≡ fine → checkFrame b ≡ fine
+unfolding checkBook
+fine-frame b e = all-fine (checkFrame b) _ e .0
+
 returns : tie.Need-returns
 returns c =
     let k : tie.After-check-frame = search in
-    let e = ap verdictOf (c .enum-told2 .given .1) in
-    λ f. refuses e (k .check-frame .ensures .refusal e ∙ f)
+    λ f. refuses (sym (k .check-frame .ensures) ∙ ap verdictOf (c .enum-told2 .given .1)) (fine-frame _ f)
 
 -- the frame is right
 right : (c : tie.After-people-in) → RightFrame (start c .args .book .now) (c .people-in .result)
 right c =
     let t : tie.After-enum-told = search in
     let k : tie.After-check-frame = search in
-    frame-right (k .check-frame .ensures) (ap verdictOf (t .enum-told .given .1)) (c .people-in .ensures .0)
+    subst⁻¹ (λ (m : ℕ). RightFrame (start c .args .book .now) m) (c .people-in .ensures .0)
+    (frame-right _ (sym (k .check-frame .ensures) ∙ ap verdictOf (t .enum-told .given .1)))
 
 returns-2 : tie.Need-returns-2
 returns-2 c = none-below (right (c .before)) (c .if1 .taken)
 
 lists-from-requires : tie.Need-lists-from-requires
-lists-from-requires c κs = let p : tie.After-people-in = search in (right p .pairs, omega arith)
+lists-from-requires c κs = let p : tie.After-people-in = search in (right p .end, start p .pre, omega arith)
 
 returns-3 : tie.Need-returns-3
 returns-3 c =
@@ -43,7 +50,7 @@ returns-3 c =
     let m : tie.After-largest-byte = search in
     let w : tie.After-wide = search in
     let some : tie.Else1 = search in
-    some-above (right (read w)) (l .lists-from .ensures) (w .wide .ensures .0 ∙ m .largest-byte .ensures) (some .if1 .left) (omega arith)
+    some-above (right (read w)) (l .lists-from .ensures) (w .wide .ensures .0 ∙ m .largest-byte .ensures) (start (read w) .pre) (some .if1 .left) (omega arith)
 
 returns-4 : tie.Need-returns-4
 returns-4 c =

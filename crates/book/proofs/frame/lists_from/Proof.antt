@@ -6,17 +6,18 @@ use lib.ListN.{length}
 use borrow.Author.Needs.{needs}
 use Rattle.format.specs.Format.{listsStart, size}
 use Rattle.format.specs.Laws.Bounds.{few-square}
+use Rattle.format.specs.Laws.Directory.{complete-long}
 use Rattle.format.specs.Laws.Frame.{lists-within, lists-at}
 use Rattle.book.proofs.frame.lists_from.Statement.{statement}
 use Rattle.book.proofs.frame.lists_from.Tie as tie
 
 -- the lists end within the book, whose size is small
 ends : (c : tie.Start) → let a = c .args in listsStart (a .n) + a .from * a .n + a .count * a .n ≤ length (a .book .now)
-ends c = lists-within (c .pre .0) (c .args .from) (c .args .count) (c .pre .1)
+ends c = lists-within (c .pre .0) (c .pre .1) (c .args .from) (c .args .count) (c .pre .2)
 
 small : (c : tie.Start) → length (c .args .book .now) ≤ 8706
 unfolding size
-small c = let S = c .pre .0 .sized in omega (arith, S .long, S .few, few-square (S .few))
+small c = let h = c .pre .0 .directory .outline .few in omega (arith, complete-long (c .pre .0) (c .pre .1), few-square h)
 
 mul-bytes-at-2 : tie.Need-mul-bytes-at-2
 mul-bytes-at-2 c = let s : tie.Start = search in omega (arith, ends s, small s)
@@ -33,7 +34,7 @@ bytes-at-requires c κs = let s : tie.Start = search in omega (arith, ends s)
 returns : tie.Need-returns
 returns c =
     let s : tie.Start = search in
-    lists-at (s .pre .0) (s .args .from) (s .args .count) (s .pre .1) refl (c .bytes-at .ensures)
+    lists-at (s .pre .0) (s .pre .1) (s .args .from) (s .args .count) (s .pre .2) refl (c .bytes-at .ensures)
 
 pub lists-from-spec : {M : Type 1} → statement M
 lists-from-spec =

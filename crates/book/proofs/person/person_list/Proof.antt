@@ -43,7 +43,7 @@ list-of-requires : tie.Need-list-of-requires
 list-of-requires c κs =
     let t : tie.After-enum-told = search in
     let p : tie.After-people-in = search in
-    listed (fine-passed _ (person-book _ _ (passed t)) .pairs) (omega (arith, one-of p, p .people-in .ensures .0))
+    listed (fine-passed _ (person-book _ _ (passed t)) .frame .end) (omega (arith, one-of p, p .people-in .ensures .0))
 
 returns-2 : tie.Need-returns-2
 returns-2 c =

@@ -1,34 +1,56 @@
--- `check` meets its contract: a refusal of the frame is the book's, and with a right frame the verdict on the lists is.
--- Assumes nothing.
-use mathlib.Core.Path.{sym, _∙_, ap}
+-- `check` meets its contract: a part that refuses is followed by nothing, and any other by the next. Assumes nothing.
+use Prim.Native.Nat.{ℕ}
+use mathlib.Core.Path.{_≡_, sym, _∙_, ap, subst⁻¹}
 use borrow.Author.Needs.{needs}
-use Rattle.format.specs.Verdict.{verdictOf}
-use Rattle.format.specs.Frame.{RightFrame}
-use Rattle.format.specs.Laws.Frame.{frame-right, frame-lists}
+use Rattle.format.specs.Verdict.{fine, verdictOf}
+use Rattle.format.specs.Check.{checkFrame, checkEntries, checkBook}
+use Rattle.format.specs.Laws.Verdict.{stays, goes-on}
+use Rattle.format.specs.Laws.Stages.{RightFrame, frame-right}
 use Rattle.book.proofs.rules.check.Statement.{statement}
 use Rattle.book.proofs.rules.check.Tie as tie
 
-returns : tie.Need-returns
-returns c =
-    let k : tie.After-check-frame = search in k .check-frame .ensures .refusal (ap verdictOf (c .enum-told2 .given .1))
-
-abbrev start : tie.After-check-frame → tie.Start
+abbrev start : tie.After-enum-told → tie.Start
 start c = search
 
-abbrev checked : tie.After-people-in → tie.After-check-frame
-checked c = search
+abbrev first : tie.After-enum-told3 → tie.After-enum-told
+first c = search
 
 -- the frame is right
-right : (c : tie.After-people-in) → RightFrame (start (checked c) .args .book .now) (c .people-in .result)
-right c =
-    let t : tie.After-enum-told = search in
-    frame-right (checked c .check-frame .ensures) (ap verdictOf (t .enum-told .given .1)) (c .people-in .ensures .0)
+frame : (c : tie.After-enum-told) → checkFrame (start c .args .book .now) ≡ fine
+frame c =
+    let k : tie.After-check-frame = search in sym (k .check-frame .ensures) ∙ ap verdictOf (c .enum-told .given .1)
 
-check-lists-requires : tie.Need-check-lists-requires
-check-lists-requires c κs = right c .pairs
+right : (c : tie.After-people-in) → RightFrame (start (c .before) .args .book .now) (c .people-in .result)
+right c = subst⁻¹ (λ (m : ℕ). RightFrame (start (c .before) .args .book .now) m) (c .people-in .ensures .0) (frame-right _ (frame (c .before)))
+
+-- and so are the entries
+entries : (c : tie.After-enum-told3) → checkEntries (start (first c) .args .book .now) ≡ fine
+entries c =
+    let k : tie.After-check-lists = search in sym (k .check-lists .ensures) ∙ ap verdictOf (c .enum-told3 .given .1)
+
+returns : tie.Need-returns
+unfolding checkBook
+returns c =
+    let k : tie.After-check-frame = search in
+    k .check-frame .ensures ∙ sym (stays _ _ (sym (k .check-frame .ensures) ∙ ap verdictOf (c .enum-told2 .given .1)))
 
 returns-2 : tie.Need-returns-2
-returns-2 c = let p : tie.After-people-in = search in c .check-lists .ensures ∙ sym (frame-lists (right p))
+unfolding checkBook
+returns-2 c =
+    let t : tie.After-enum-told = search in
+    let k : tie.After-check-lists = search in
+    k .check-lists .ensures
+    ∙ sym (goes-on _ _ (frame t) ∙ stays _ _ (sym (k .check-lists .ensures) ∙ ap verdictOf (c .enum-told4 .given .1)))
+
+check-returned-requires : tie.Need-check-returned-requires
+check-returned-requires c κs =
+    let p : tie.After-people-in = search in record { frame = right p; entries = entries c }
+
+returns-3 : tie.Need-returns-3
+unfolding checkBook
+returns-3 c =
+    let t = c .before in
+    c .check-returned .ensures ∙ sym (goes-on _ _ (frame (first t)) ∙ goes-on _ _ (entries t))
 
 pub check-spec : {M : Type 1} → statement M
 check-spec =
@@ -39,5 +61,9 @@ check-spec =
     (λ c. search needs)
     returns
     (λ c κs. search needs)
-    check-lists-requires
-    returns-2)
+    (λ c κs. right c .end)
+    (λ c. search needs)
+    (λ c. search needs)
+    returns-2
+    check-returned-requires
+    returns-3)

@@ -1,14 +1,15 @@
 -- `check_lists` meets its contract. The loop's invariant: the first k lists are fine.
 -- The measure is the number of lists left. Assumes nothing.
-use Prim.Native.Nat.{_*_, _-_}
-use mathlib.Core.Path.{ap}
+use Prim.Native.Nat.{ℕ, _*_, _-_}
+use mathlib.Core.Path.{_≡_, _∙_, ap}
 use native.Mathlib.Omega.{arith}
 use borrow.Author.Needs.{needs}
 use Rattle.format.specs.Verdict.{verdictOf}
 use Rattle.format.specs.Format.{entry, listLength, offset}
-use Rattle.format.specs.Check.{Listed}
+use Rattle.format.specs.Lists.{checkLists}
+use Rattle.format.specs.Check.{checkEntries, Listed}
 use Rattle.format.specs.Laws.Directory.{listed, stretch-holds}
-use Rattle.book.specs.Laws.ListRules.{FineLists, lists-start, lists-on, lists-stop, lists-end}
+use Rattle.rows.specs.Laws.ListRules.{FineLists, lists-start, lists-on, lists-stop, lists-end}
 use Rattle.book.proofs.rules.check_lists.Statement.{statement}
 use Rattle.book.proofs.rules.check_lists.Tie as tie
 
@@ -25,6 +26,13 @@ start c = search
 lies : (c : tie.In-loop Inv-loop μ-loop) → Listed (start c .args .book .now) (c .before .loop .k)
 lies c = listed (start c .pre) (c .loop-test .taken)
 
+-- n is that of the book
+counted : (c : tie.Start Inv-loop μ-loop) → let b = c .args .book .now in
+    let n = c .args .n in checkLists n (entry b) (listLength b) (offset b) (2 * n) ≡ checkEntries b
+counted c =
+    let b = c .args .book .now in
+    ap (λ (m : ℕ). checkLists m (entry b) (listLength b) (offset b) (2 * m)) (c .pre .directory .outline .number)
+
 returns : tie.Need-returns Inv-loop μ-loop
 returns c =
     let l : tie.After-list-of Inv-loop μ-loop = search in
@@ -32,6 +40,7 @@ returns c =
     let t : tie.In-loop Inv-loop μ-loop = search in
     lists-stop (t .before .loop .inv) (t .loop-test .taken) (stretch-holds (lies t) (l .list-of .ensures)) (o .offset-of .ensures .0)
     (c .before .before .check-list .ensures) (ap verdictOf (c .enum-told2 .given .1))
+    ∙ counted (start t)
 
 loop-again : tie.Need-loop-again Inv-loop μ-loop
 loop-again c =
@@ -58,4 +67,4 @@ check-lists-spec =
     (λ c. omega arith)
     (λ c. omega arith)
     loop-again
-    (λ c. lists-end (c .before .loop .inv) (c .loop-test .left)))
+    (λ c. let s : tie.Start Inv-loop μ-loop = search in lists-end (c .before .loop .inv) (c .loop-test .left) ∙ counted s))

@@ -7,7 +7,7 @@ use borrow.Author.Needs.{needs}
 use Rattle.format.specs.Verdict.{verdictOf}
 use Rattle.format.specs.Write.{given}
 use Rattle.format.specs.Laws.Bounds.{few-square, list-end}
-use Rattle.book.specs.Laws.ListRules.{FineLists, lists-start, lists-on, lists-stop, lists-end}
+use Rattle.rows.specs.Laws.ListRules.{FineLists, lists-start, lists-on, lists-stop, lists-end}
 use Rattle.writer.specs.Laws.Given.{given-end, given-holds}
 use Rattle.writer.proofs.writer.check_given.Statement.{statement}
 use Rattle.writer.proofs.writer.check_given.Tie as tie

@@ -1,0 +1,80 @@
+// Men and women: who has a number of a table, the pair that a request names, and whom a man has in a matching.
+// Outside this crate `wide` takes one apart, for an index.
+use crate::row::NOBODY;
+use crate::row::wide;
+use format::Man;
+use format::Pair;
+use format::Partner;
+use format::Woman;
+ghost use mathlib.Core.Path.{_≡_};
+ghost use Prim.Native.Nat.{_+_, _<_};
+ghost use lib.ListN.{length, set};
+ghost use Rattle.laws.specs.Moment.{now₀, now₁};
+ghost use Rattle.format.specs.Format.{largest, entryIn};
+ghost use Rattle.format.specs.Partner.{PartnerIs, entryFor};
+
+// The man with a number.
+pub fn man_numbered(i: usize) -> Man
+    requires { ⌜ i < largest ⌝ }
+    ensures { λ r. ⌜ r .0 ≡ i ⌝ }
+{
+    Man(i as u8)
+}
+
+// The woman with a number.
+pub fn woman_numbered(i: usize) -> Woman
+    requires { ⌜ i < largest ⌝ }
+    ensures { λ r. ⌜ r .0 ≡ i ⌝ }
+{
+    Woman(i as u8)
+}
+
+// The man after another.
+pub fn next_man(m: Man) -> Man
+    requires { ⌜ m .0 < largest ⌝ }
+    ensures { λ r. ⌜ r .0 ≡ m .0 + 1 ⌝ }
+{
+    Man(m.0 + 1)
+}
+
+// The pair that a request of two entries names, man then woman.
+pub fn pair_in(request: &[u8]) -> Pair
+    requires { ⌜ length (now request) ≡ 2 ⌝ }
+    ensures { λ r. ⌜ (r .man .0 ≡ entryIn (now₀ request) 0) × (r .woman .0 ≡ entryIn (now₀ request) 1) ⌝ }
+{
+    let man = Man(request[0]);
+    let woman = Woman(request[1]);
+    Pair { man, woman }
+}
+
+// The woman of a man in a matching, or that he is alone.
+pub fn partner_of(matching: &[u8], m: Man) -> Partner
+    requires { ⌜ m .0 < length (now matching) ⌝ }
+    ensures { λ r. ⌜ PartnerIs (entryIn (now₀ matching) (m .0)) r ⌝ }
+{
+    let i = wide(m.0);
+    let entry = matching[i];
+    if entry == NOBODY {
+        return Partner::Alone;
+    }
+    Partner::With(Woman(entry))
+}
+
+// The entry that stands for a partner.
+fn partner_entry(partner: Partner) -> u8
+    ensures { λ r. ⌜ r ≡ entryFor partner ⌝ }
+{
+    match partner {
+        Partner::With(woman) => woman.0,
+        Partner::Alone => NOBODY,
+    }
+}
+
+// Writes the woman of a man in a matching, or that he is alone.
+pub fn put_partner(matching: &mut [u8], m: Man, partner: Partner)
+    requires { ⌜ m .0 < length (now matching) ⌝ }
+    ensures { λ _. ⌜ now₁ matching ≡ set (now₀ matching) (m .0) (entryFor partner) ⌝ }
+{
+    let i = wide(m.0);
+    matching[i] = partner_entry(partner);
+}
