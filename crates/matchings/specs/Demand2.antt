@@ -1,7 +1,7 @@
 -- The first half of demand 2: "the check says stable exactly when no pair blocks, and the student-best and the
--- mentor-best matching are those of the published theory", in the words that the contracts cite, for lists of any length.
--- A lower rank is a better one; who is alone has the end of the list for a rank. Each proof is a citation of Laws.
--- Assumes nothing.
+-- mentor-best matching are those of the published theory", in the words that the contracts cite, for lists of any
+-- length. A lower rank is a better one; who is alone has the end of the list for a rank. Each proof is a citation of
+-- Laws. Assumes nothing.
 use Prim.Native.Nat.{ℕ, _≤_, _<_}
 use mathlib.Core.Path.{_≡_}
 use mathlib.Core.Bool.{true, false}
@@ -39,8 +39,8 @@ module _ {b m : List ℕ} (A : MatchingIn b m) {i w : ℕ} (student : i < people
   pub blocks-exactly : blocks b m i w ≡ true ↔ Blocks (market b) (womanOf m) i w
   blocks-exactly = blocks-theory A student mentor
 
-  -- in document 01's words, of a place on a list: both rank each other above their partners. Who is alone has the end of
-  -- the list for a place
+  -- in document 01's words, of a place on a list: both rank each other above their partners. Who is alone has the end
+  -- of the list for a place
   pub blocks-above :
       blocks b m i w ≡ true ↔ ((manRank b i w < manRank b i (womanOf m i)) × (womanRank b w i < womanRank b w (manOf (people b) m w)))
   blocks-above = blocks-ranks A student mentor

@@ -1,5 +1,6 @@
--- Matchings, blocking pairs and the check of a matching: rules 8, 9, 19 and 10. A matching is a row of n entries: entry i
--- is the woman, document 01's mentor, of man i, document 01's student, or says that he is alone. Assumes nothing.
+-- Matchings, blocking pairs and the check of a matching: rules 8, 9, 19 and 10. A matching is a row of n entries:
+-- entry i is the woman, document 01's mentor, of man i, document 01's student, or says that he is alone. Assumes
+-- nothing.
 use Prim.Native.Nat.{ℕ, _<_}
 use mathlib.Core.Path.{_≡_}
 use mathlib.Core.List.{List}
@@ -17,8 +18,8 @@ use Rattle.stable_theory.specs.Stable.Market.{Acceptable}
 use Rattle.stable_theory.specs.Matchings.Matching.{places}
 use Rattle.matchings.specs.BookMarket.{market}
 
--- The place of mentor w on student i's list, and of student i on mentor w's; the list's length for who does not stand on
--- it
+-- The place of mentor w on student i's list, and of student i on mentor w's; the list's length for who does not stand
+-- on it
 abbrev pub manRank : List ℕ → ℕ → ℕ → ℕ
 manRank b i w = market b .proposers .place i w
 
@@ -56,7 +57,8 @@ manOf n m w = first (λ i. eqb (womanOf m i) w) n
 abbrev pub womanAlone : ℕ → List ℕ → ℕ → Bool
 womanAlone n m w = leb n (manOf n m w)
 
--- The place vector of a matching: where each student's mentor stands on his list, or the list's length where he is alone
+-- The place vector of a matching: where each student's mentor stands on his list, or the list's length where he is
+-- alone
 abbrev pub vectorOf : List ℕ → List ℕ → ℕ → ℕ
 vectorOf b m = places (market b) (womanOf m)
 
@@ -93,8 +95,8 @@ unlisted b m i = both (ltb (womanOf m i) (people b)) (not (listEachOther b i (wo
 unfoldable pub checkListed : List ℕ → List ℕ → Verdict
 checkListed b m = rule (some (unlisted b m) (people b)) 19 0 fine
 
--- Rules 8 and 9: n entries, and no clash, which is what rules 6 and 7 find in a list; where students may be alone, those
--- who are do not clash
+-- Rules 8 and 9: n entries, and no clash, which is what rules 6 and 7 find in a list; where students may be alone,
+-- those who are do not clash
 unfoldable pub checkNames : Bool → ℕ → List ℕ → Verdict
 checkNames alone n m =
     rule (not (eqb (length m) n)) 8 0

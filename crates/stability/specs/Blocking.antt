@@ -45,12 +45,12 @@ pub record Searchable (n : ℕ) (mlists wranks women : List ℕ) : Type 0 where
   pub ranks-long : n * n ≤ length wranks
   pub women-long : n ≤ length women
 
--- and of the men's places, that each is on a list
+-- and of the men's places, that each is on a list or at its end
 pub record OnLists (n : ℕ) (mlists men : List ℕ) : Type 0 where
   pub long : n ≤ length men
-  pub on : {i : ℕ} → i < n → vec men i < lenIn n n mlists i
+  pub on : {i : ℕ} → i < n → vec men i ≤ lenIn n n mlists i
 
--- What the check asks: tables that can be worked on, and places on the lists of both sides
+-- What the check asks: tables that can be worked on, and places on the lists of both sides or at their ends
 pub record Checkable (R : Record) (men women : List ℕ) : Type 0 where
   pub usable : Usable R
   pub men-on : OnLists (R .n) (R .mlists) men

@@ -1,9 +1,9 @@
 -- What `judge` answers: the verdict on a matching, and the places of both sides. Assumes nothing.
-use Prim.Native.Nat.{ℕ, _≤_, _<_}
+use Prim.Native.Nat.{ℕ}
 use mathlib.Core.Path.{_≡_}
+use mathlib.Core.Bool.{Bool}
 use mathlib.Core.List.{List}
-use lib.ListN.{length, replicate}
-use Rattle.laws.specs.Values.{vec}
+use lib.ListN.{replicate}
 use Rattle.format.specs.declared.verdict.Checked.{Checked}
 use Rattle.format.specs.declared.verdict.Checked.the-variants.{Fine}
 use Rattle.format.specs.declared.record.Instance.{Instance}
@@ -14,12 +14,7 @@ use Rattle.stable_theory.specs.Stable.Holder.{mirror}
 use Rattle.matchings.specs.declared.places.Judged.{Judged}
 use Rattle.matchings.specs.BookMarket.{market}
 use Rattle.matchings.specs.Matching.{vectorOf, checkMatching}
-
--- A vector with room for the largest n: f below n, and zeros past it
-pub record Entries (n : ℕ) (f : ℕ → ℕ) (l : List ℕ) : Type 0 where
-  pub here : {i : ℕ} → i < n → vec l i ≡ f i
-  pub past : {i : ℕ} → n ≤ i → vec l i ≡ 0
-  pub long : length l ≡ largest
+use Rattle.stability.specs.Placing.{Entries}
 
 -- The verdict, and the places of the students and the mentors, none on a refusal
 pub record JudgedIs (b m : List ℕ) (r : Judged) : Type 0 where
@@ -27,26 +22,26 @@ pub record JudgedIs (b m : List ℕ) (r : Judged) : Type 0 where
   pub men : Entries (numberIf (checkMatching b m) (people b)) (vectorOf b m) (r .places .men)
   pub women : Entries (numberIf (checkMatching b m) (people b)) (mirror (market b) (vectorOf b m)) (r .places .women)
 
--- What is made of a book, from the answer of its check and its record
-abbrev pub instanceOf : Checked → Record → Instance
-instanceOf answer R = record { checked = answer; n = R .n }
+-- What is made of a book, from the answer of its check, whether lists may be short, and its record
+abbrev pub instanceOf : Checked → Bool → Record → Instance
+instanceOf answer partial R = record { checked = answer; partial = partial; n = R .n }
 
--- The two are made of some book
-pub record FromBook (answer : Checked) (R : Record) : Type 0 where
+-- They are made of some book
+pub record FromBook (answer : Checked) (partial : Bool) (R : Record) : Type 0 where
   pub book : List ℕ
-  pub recorded : Recorded book (instanceOf answer R) R
+  pub recorded : Recorded book (instanceOf answer partial R) R
 
 -- The tables are made of some book in which nothing is refused
-abbrev pub FromFine : Record → Type 0
-FromFine R = FromBook Fine R
+abbrev pub FromFine : Bool → Record → Type 0
+FromFine partial R = FromBook Fine partial R
 
 -- What holds of each book of which they are made
-abbrev pub EachBook : Checked → Record → (List ℕ → Type 0) → Type 0
-EachBook answer R P = (b : List ℕ) → Recorded b (instanceOf answer R) R → P b
+abbrev pub EachBook : Checked → Bool → Record → (List ℕ → Type 0) → Type 0
+EachBook answer partial R P = (b : List ℕ) → Recorded b (instanceOf answer partial R) R → P b
 
 -- What is answered on the matching m for each of those books
-abbrev pub Judges : Checked → Record → List ℕ → Judged → Type 0
-Judges answer R m r = EachBook answer R (λ b. JudgedIs b m r)
+abbrev pub Judges : Checked → Bool → Record → List ℕ → Judged → Type 0
+Judges answer partial R m r = EachBook answer partial R (λ b. JudgedIs b m r)
 
 -- An answer, with zeros for the places
 pub record Unplaced (checked : Checked) (r : Judged) : Type 0 where

@@ -2,7 +2,9 @@
 pub mod Names
 pub mod Search
 pub mod EitherSide
+pub mod Listed
 pub mod Placing
+pub mod BookRecord
 pub mod TableCheck
 pub mod Judging
 pub mod Judged

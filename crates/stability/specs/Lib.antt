@@ -1,6 +1,7 @@
--- The check of a matching on the record's tables. Blocking, Placing and Judge have what contracts cite, Laws what only
--- proofs cite. Assumes nothing.
+-- The check of a matching on the record's tables. Blocking, Listed, Placing and Judge have what contracts cite, Laws
+-- what only proofs cite. Assumes nothing.
 pub mod Blocking
+pub mod Listed
 pub mod Placing
 pub mod Judge
 pub mod Laws

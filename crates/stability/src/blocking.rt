@@ -1,11 +1,11 @@
 // The search for a blocking pair, over the men's lists and the women's ranks: for man i only the women before his own
 // place can block, and a woman does where she ranks him above her own man. It reads the places before the men's own, so
 // where the women's places have the lower sum it is made first on the exchanged tables.
-use book::man_numbered;
-use book::woman_numbered;
 use format::Checked;
 use format::Pair;
 use format::Refusal;
+use rows::man_numbered;
+use rows::woman_numbered;
 use tables::entry;
 use tables::list_at;
 use tables::wide;
@@ -143,8 +143,8 @@ fn unstable(pair: Pair) -> Checked
     let woman = pair.woman;
     Checked::Refused(Refusal {
         number: 10,
-        place: book::wide(man.0),
-        second: book::wide(woman.0),
+        place: rows::wide(man.0),
+        second: rows::wide(woman.0),
     })
 }
 

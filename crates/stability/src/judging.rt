@@ -1,5 +1,6 @@
-// The check of a matching of a book: the book, then rules 8, 9 and 10.
+// The check of a matching of a book: the book, then rules 8, 9, 19 and 10.
 use crate::blocking::check_stable;
+use crate::listed::check_listed;
 use crate::names::check_names;
 use crate::placing::places_of;
 use book::is_small;
@@ -62,7 +63,16 @@ fn check_with(
 {
     let made = load(book, mlists, mranks, wlists, wranks);
     let answer = made.checked;
-    let judged = judge(answer, made.n, mlists, mranks, wlists, wranks, matching);
+    let judged = judge(
+        answer,
+        made.n,
+        made.partial,
+        mlists,
+        mranks,
+        wlists,
+        wranks,
+        matching,
+    );
     judged.checked
 }
 
@@ -70,6 +80,7 @@ fn check_with(
 pub fn judge(
     answer: Checked,
     n: usize,
+    partial: bool,
     mlists: &[u16],
     mranks: &[u16],
     wlists: &[u16],
@@ -78,17 +89,21 @@ pub fn judge(
 ) -> Judged
     ghost { Record }
     requires { λ R. ⌜ lent n mlists mranks wlists wranks ≡ R ⌝ }
-    requires { λ R. ⌜ FromBook answer R ⌝ }
-    ensures { λ R r. ⌜ Judges answer R (now₀ matching) r ⌝ }
+    requires { λ R. ⌜ FromBook answer partial R ⌝ }
+    ensures { λ R r. ⌜ Judges answer partial R (now₀ matching) r ⌝ }
 {
     let Checked::Fine = answer else {
         return unplaced(answer);
     };
-    let listed = check_names(n, matching);
+    let named = check_names(n, partial, matching);
+    let Checked::Fine = named else {
+        return unplaced(named);
+    };
+    let listed = check_listed(n, mlists, mranks, matching);
     let Checked::Fine = listed else {
         return unplaced(listed);
     };
-    let places = places_of(n, mranks, wranks, matching);
+    let places = places_of(n, mlists, mranks, wlists, wranks, matching);
     let checked = check_stable(
         n,
         mlists,

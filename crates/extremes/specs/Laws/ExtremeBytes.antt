@@ -5,7 +5,9 @@ use mathlib.Core.Path.{_≡_, refl, sym, _∙_, ap, ap₂, subst}
 use mathlib.Core.List.{List, _++_}
 use native.Mathlib.Omega.{arith}
 use lib.ListN.{length, drop}
-use Rattle.laws.specs.Values.{vec, values, values-same}
+use borrow.Author.Tests.{lt-ltb, le-ltb}
+use Rattle.laws.specs.Choice.{split}
+use Rattle.laws.specs.Values.{values, values-same}
 use Rattle.format.specs.declared.record.Instance.{Instance}
 use Rattle.format.specs.Verdict.{Verdict, fine, refused, andThen, verdictOf}
 use Rattle.format.specs.Laws.Verdict.{all-fine}
@@ -15,17 +17,15 @@ use Rattle.format.specs.Format.{people}
 use Rattle.format.specs.Check.{checkBook}
 use Rattle.format.specs.WellFormed.{WellFormed, fine-well-formed}
 use Rattle.format.specs.Record.{Record, RecordIs, Recorded, numberIf}
-use Rattle.stable_theory.specs.Stable.Vector.{Stable}
 use Rattle.stable_theory.specs.Stable.Holding.{Same}
-use Rattle.stable_theory.specs.Matchings.Matching.{partners}
-use Rattle.stable_theory.specs.Matchings.MatchingLaws.{partners-placed}
-use Rattle.stable_theory.specs.Matchings.Perfect.{stable-full}
-use Rattle.tables.specs.Lists.{atIn}
-use Rattle.matchings.specs.BookMarket.{market}
+use Rattle.tables.specs.Lists.{lenIn}
+use Rattle.matchings.specs.Matching.{manChoice}
+use Rattle.matchings.specs.Extreme as in-book
 use Rattle.matchings.specs.Extreme.{matchingOf, checkExtreme}
+use Rattle.matchings.specs.Laws.StableVector.{partner-placed, partner-alone}
 use Rattle.instances.specs.Usable.{Usable, marketIn}
-use Rattle.instances.specs.Laws.BookTables.{usable, usable-alike}
-use Rattle.extremes.specs.Places.{MatchingWritable, womenAt}
+use Rattle.instances.specs.Laws.BookTables.{usable-alike}
+use Rattle.extremes.specs.Places.{MatchingWritable, partnerAt, womenAt}
 
 -- the rule of the room follows the book's check, whatever the number is where that refuses
 room-after : (v : Verdict) (n k room : ℕ) → n ≡ numberIf v k → andThen v (checkRoom n room) ≡ andThen v (checkRoom k room)
@@ -53,38 +53,27 @@ module _ {b : List ℕ} {i : Instance} {r : Record} (R : Recorded b i r) (room :
     pub room-fits : people b ≤ room
     room-fits = room-enough (people b) room (all-fine (checkBook b) (checkRoom (people b) room) e .1)
 
-module _ {r : Record} (U : Usable r) {p : ℕ → ℕ} (P : Stable (marketIn r) p) where
-  -- every man has a place on his list
-  pub on-list : {i : ℕ} → i < r .n → p i < marketIn r .proposers .len i
-  on-list u = stable-full (U .men .proper) (U .complete) P u
-
-  -- so the women at the places can be written
-  pub places-writable : {places out : List ℕ} → ((i : ℕ) → i < r .n → vec places i ≡ p i) → r .n ≤ length places → r .n ≤ length out → MatchingWritable (r .n) (r .mlists) places out
-  places-writable same h room =
-      record {
-        lists = U .men .proposers;
-        men = h;
-        placed = λ {i} u. omega (arith, on-list u, same i u);
-        few = U .few;
-        room = room;
-      }
+-- the places of a record's men can be written as entries
+pub places-writable :
+    {r : Record} → Usable r → {places out : List ℕ} → r .n ≤ length places → r .n ≤ length out → MatchingWritable (r .n) (r .mlists) places out
+places-writable U h room = record { lists = U .men .proposers; men = h; few = U .few; room = room }
 
 -- the women at places are those at the same places
 pub women-same : (n : ℕ) (mlists : List ℕ) (p q : ℕ → ℕ) → ((i : ℕ) → i < n → p i ≡ q i) → womenAt n mlists p ≡ womenAt n mlists q
-women-same n mlists p q e = values-same n _ _ (λ i u. ap (atIn n mlists i) (e i u))
+women-same n mlists p q e = values-same n _ _ (λ i u. ap (partnerAt n mlists i) (e i u))
 
-module _ {b : List ℕ} {r : Record} (W : WellFormed b) (T : RecordIs b (people b) r) {p q : ℕ → ℕ} (P : Stable (marketIn r) p) (e : Same (marketIn r) p q) where
+module _ {b : List ℕ} {r : Record} (W : WellFormed b) (T : RecordIs b (people b) r) {p q : ℕ → ℕ} (e : Same (marketIn r) p q) where
   -- the women at the places of a record are the matching of the book's vector with these places
   pub women-matching : womenAt (r .n) (r .mlists) p ≡ matchingOf b q
-  women-matching = values-same (r .n) _ _ one ∙ ap (values (partners (market b) q) 0) (T .number)
+  women-matching = values-same (r .n) _ _ one ∙ ap (values (in-book.partnerAt b q) 0) (T .number)
     where
-      one : (i : ℕ) → i < r .n → atIn (r .n) (r .mlists) i (p i) ≡ partners (market b) q i
+      one : (i : ℕ) → i < r .n → partnerAt (r .n) (r .mlists) i (p i) ≡ in-book.partnerAt b q i
       one i u =
           let A = usable-alike W T in
-          let l = on-list (usable W T) P u in
-          A .proposing .at u l
-          ∙ ap (market b .proposers .at i) (e i u)
-          ∙ sym (partners-placed (market b) q i (omega (arith, l, e i u, A .proposing .len u)))
+          let same = A .proposing .len u in
+          split (lenIn (r .n) (r .n) (r .mlists) i) (p i)
+          (λ k. rw (le-ltb _ _ k) (sym (partner-alone b q (omega (arith, e i u)))))
+          (λ l. rw (lt-ltb _ _ l) (A .proposing .at u l ∙ ap (manChoice b i) (e i u) ∙ sym (partner-placed b q (omega (arith, e i u)))))
 
   -- so what was written is what the definition has where nothing is refused
   pub women-filled :

@@ -10,7 +10,7 @@ use Rattle.stable_theory.specs.Stable.Vector.{Stable, Mirror}
 use Rattle.stable_theory.specs.Stable.Holding.{Same, stable-same}
 use Rattle.stable_theory.specs.Stable.Mirror.{mirror-back, stable-across}
 use Rattle.stable_theory.specs.Stable.Alike.{Alike, alike-refl, mirror-alike}
-use Rattle.stable_theory.specs.Least.Optimal.{proposer-optimal, receiver-optimal, proposer-optimal-stable, receiver-optimal-stable}
+use Rattle.stable_theory.specs.Least.Optimal.{proposer-optimal, receiver-optimal}
 use Rattle.stable_theory.specs.Least.OptimalAlike.{proposer-optimal-alike, receiver-optimal-alike, receiver-optimal-is}
 use Rattle.tables.specs.Lists.{Sized, marketOf}
 use Rattle.deferred.specs.Optimal.{BestOff}
@@ -59,12 +59,8 @@ module _ {n : ℕ} (few : n ≤ largest) where
   women-best mlists wlists p t M e f B =
       array-places mlists wlists t p f e (worst-men (exchanged M) B) (stable-across M (B .mirror) (B .stable)) (mirror-back (B .mirror))
 
--- markets that are alike have the same extremes, and they are stable
+-- markets that are alike have the same extremes
 pub extreme-alike :
     (x : Proposers) {I J : Market} → Proper I → Proper J → Alike I J → Same I (extremeOf x I) (extremeOf x J)
 extreme-alike Men M N A = proposer-optimal-alike M N A
 extreme-alike Women M N A = receiver-optimal-alike M N A
-
-pub extreme-stable : (x : Proposers) {I : Market} → Proper I → Stable I (extremeOf x I)
-extreme-stable Men M = proposer-optimal-stable M
-extreme-stable Women M = receiver-optimal-stable M

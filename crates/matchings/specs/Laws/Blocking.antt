@@ -2,21 +2,21 @@
 -- place, so that to be alone or to prefer the other is to rank the other below that place. Assumes nothing.
 use Prim.Native.Nat.{ℕ, _≤_, _<_}
 use mathlib.Core.Path.{_≡_, refl, sym, _∙_, ap}
-use mathlib.Core.Bool.{Bool, true, false}
+use mathlib.Core.Bool.{Bool, true}
 use mathlib.Core.Logic.{_↔_}
 use mathlib.Core.List.{List}
 use native.Mathlib.Omega.{arith}
-use lib.Dec.{ltb, leb, eqb}
-use borrow.Author.Tests.{lt-ltb, ltb-true, le-leb, leb-true, leb-false, eq-eqb, ne-eqb, eqb-true, eqb-false}
-use Rattle.laws.specs.Choice.{both, either, split, tested}
+use lib.Dec.{ltb, eqb}
+use borrow.Author.Tests.{lt-ltb, ltb-true, leb-true, eq-eqb, ne-eqb, eqb-true}
+use Rattle.laws.specs.Choice.{both, split, tested}
 use Rattle.laws.specs.Both.{both-left, both-right, both-true}
-use Rattle.laws.specs.First.{first-le, first-hit, scan-hit}
+use Rattle.laws.specs.First.{first-le, first-hit, scan-hit, clash}
 use Rattle.format.specs.Format.{people, nobody}
 use Rattle.stable_theory.specs.Stable.Market.{Acceptable}
 use Rattle.stable_theory.specs.Matchings.Matching.{Wants, alone, prefers, Wanted, free, favoured, Blocks}
 use Rattle.matchings.specs.BookMarket.{market, no-mentor, no-student}
 use Rattle.matchings.specs.Matching.{manRank, womanRank, manLength, womanLength, listEachOther, womanOf, manAlone, manOf, womanAlone, manWants, womanWants, blocks, EntryOf, placed, unplaced, MatchingIn}
-use Rattle.matchings.specs.Laws.Entries.{nobody-most, each-acceptable, acceptable-each}
+use Rattle.matchings.specs.Laws.Entries.{nobody-most, each-acceptable}
 
 -- no rank is past the list
 pub man-rank-most : (b : List ℕ) (i w : ℕ) → manRank b i w ≤ manLength b i
@@ -90,6 +90,24 @@ module _ {b m : List ℕ} (A : MatchingIn b m) where
           let k : womanRank b w i < womanLength b w = omega (arith, h .1, woman-rank-most b w (manOf (people b) m w)) in
           both-true (both-true (lt-ltb _ _ l) (lt-ltb _ _ k)) (both-true (rank-wants (h .0)) (rank-hers (h .1))),
     )
+
+    -- and as tests
+    pub blocks-tests :
+        blocks b m i w
+        ≡ both (ltb (manRank b i w) (manRank b i (womanOf m i))) (ltb (womanRank b w i) (womanRank b w (manOf (people b) m w)))
+    blocks-tests =
+        tested (blocks b m i w)
+        (λ e. let r = blocks-ranks .0 e in e ∙ sym (both-true (lt-ltb _ _ (r .0)) (lt-ltb _ _ (r .1))))
+        (λ e.
+        e
+        ∙ sym (tested (both his hers)
+        (λ t. absurd (clash (blocks-ranks .1 (ltb-true _ _ (both-left his hers t), ltb-true _ _ (both-right his hers t))) e)) (λ t. t)))
+      where
+        his : Bool
+        his = ltb (manRank b i w) (manRank b i (womanOf m i))
+
+        hers : Bool
+        hers = ltb (womanRank b w i) (womanRank b w (manOf (people b) m w))
 
     -- In the words of the theory, which are W-203's: each lists the other, and each is alone or prefers the other
     pub blocks-theory : blocks b m i w ≡ true ↔ Blocks (market b) (womanOf m) i w

@@ -1,24 +1,25 @@
--- Rules 8, 9 and 19: nothing is refused by them exactly where m is a matching of the book. Assumes nothing.
+-- Rules 8, 9 and 19: nothing is refused by them exactly where m is a matching of the book, and they go before rule 10
+-- in this order. Assumes nothing.
 use Prim.Native.Nat.{ℕ, _≤_, _<_}
-use mathlib.Core.Path.{_≡_, refl, sym, _∙_, ap, ap₂}
+use mathlib.Core.Path.{_≡_, refl, sym, ap, ap₂}
 use mathlib.Core.Bool.{Bool, true, false, not}
 use mathlib.Core.List.{List}
 use native.Mathlib.Omega.{arith}
 use lib.ListN.{length}
-use lib.Dec.{ltb, leb, eqb}
+use lib.Dec.{ltb, eqb}
 use borrow.Author.Tests.{lt-ltb, le-ltb, ltb-true, ltb-false, leb-false, lt-leb, eq-eqb, ne-eqb, eqb-true, eqb-false, not-false}
 use Rattle.laws.specs.Choice.{both, either, either-none, split, tested}
 use Rattle.laws.specs.Both.{both-left, both-right, both-true, both-rest}
-use Rattle.laws.specs.First.{some, some-none, some-false, first-miss, clash}
-use Rattle.format.specs.Verdict.{Verdict, fine}
+use Rattle.laws.specs.First.{some, some-none, some-false, first-miss}
+use Rattle.format.specs.Verdict.{fine, refused}
 use Rattle.format.specs.Laws.Verdict.{rule-fine}
-use Rattle.format.specs.Format.{largest, partial, people, nobody}
+use Rattle.format.specs.Format.{partial, people, nobody}
 use Rattle.format.specs.Lists.{stranger, repeat, faulty, clashes, firstClash}
 use Rattle.format.specs.Check.{checkBook}
 use Rattle.format.specs.WellFormed.{WellFormed, fine-well-formed}
 use Rattle.stable_theory.specs.Stable.Market.{Acceptable}
-use Rattle.matchings.specs.BookMarket.{market}
-use Rattle.matchings.specs.Matching.{manRank, womanRank, manLength, womanLength, listEachOther, womanOf, unlisted, checkListed, checkNames, EntryOf, placed, unplaced, MatchingIn}
+use Rattle.matchings.specs.BookMarket.{market, market-proper}
+use Rattle.matchings.specs.Matching.{manRank, manLength, listEachOther, womanOf, unlisted, checkListed, checkNames, checkMatching, EntryOf, placed, unplaced, MatchingIn}
 
 -- nobody has no number of the two sides
 pub nobody-most : {b : List ℕ} → WellFormed b → people b ≤ nobody
@@ -117,24 +118,53 @@ module _ (b m : List ℕ) where
       (λ t. ap (λ (x : Bool). both x (not (listEachOther b i (womanOf m i)))) t)) in
       rw s
 
--- Where nothing is refused in the book and by rules 8, 9 and 19, m is a matching; and back
-pub names-matching :
-    {b m : List ℕ} → checkBook b ≡ fine → checkNames (partial b) (people b) m ≡ fine → checkListed b m ≡ fine → MatchingIn b m
+-- in a well formed book a student and a mentor list each other where he lists her
+pub each-lists :
+    {b : List ℕ} → WellFormed b → {i w : ℕ} → i < people b → w < people b → listEachOther b i w ≡ ltb (manRank b i w) (manLength b i)
+unfolding market
+each-lists {b} W {i} {w} u v =
+    split (manLength b i) (manRank b i w) (λ l. rw (le-ltb _ _ l))
+    (λ l. rw (lt-ltb _ _ l) (lt-ltb _ _ (market-proper W .there .back u v l)))
+
+-- What rules 8 and 9 leave: n entries, each a mentor's number or nobody's, and no mentor twice
+pub record NamedIn (b m : List ℕ) : Type 0 where
+  pub long : length m ≡ people b
+  pub entries : (i : ℕ) → i < people b → EntryOf b m i
+  pub once : (i j : ℕ) → i < people b → j < people b → womanOf m i < people b → womanOf m i ≡ womanOf m j → i ≡ j
+
+pub names-named : {b m : List ℕ} → WellFormed b → checkNames (partial b) (people b) m ≡ fine → NamedIn b m
 unfolding checkNames
-names-matching {b} {m} e f g =
-    let W = fine-well-formed b .0 e in
-    let size = rule-fine (not (eqb (length m) (people b))) 8 0 _ f in
+names-named {b} {m} W e =
+    let size = rule-fine (not (eqb (length m) (people b))) 8 0 _ e in
     let no = rule-fine (ltb (firstClash (partial b) (people b) (womanOf m) (people b)) (people b)) 9 _ fine (size .1) in
     let c = clash-clear b m (ltb-false _ _ (no .0)) in
     record {
-      formed = W;
       long = eqb-true _ _ (not-false _ (size .0));
       entries = λ i u. clear-entry b m i (c i u);
       once = clear-once b m (nobody-most W) c;
-      listed = listed-all b m g;
     }
+
+-- Where nothing is refused in the book and by rules 8, 9 and 19, m is a matching; and back
+pub names-matching :
+    {b m : List ℕ} → checkBook b ≡ fine → checkNames (partial b) (people b) m ≡ fine → checkListed b m ≡ fine → MatchingIn b m
+names-matching {b} {m} e f g =
+    let W = fine-well-formed b .0 e in
+    let N = names-named W f in
+    record { formed = W; long = N .long; entries = N .entries; once = N .once; listed = listed-all b m g }
 
 pub matching-names : {b m : List ℕ} → MatchingIn b m → (checkNames (partial b) (people b) m ≡ fine) × (checkListed b m ≡ fine)
 unfolding checkNames
 matching-names {b} {m} A =
     (rw (eq-eqb _ _ (A .long), le-ltb _ _ (clear-clash b m (matching-clear b m A))), all-listed b m (A .listed))
+
+module _ (b m : List ℕ) {number place second : ℕ} (f : checkBook b ≡ fine) where
+  -- rules 8 and 9 go before 19 and 10
+  pub names-first : checkNames (partial b) (people b) m ≡ refused number place second → checkMatching b m ≡ refused number place second
+  unfolding checkMatching
+  names-first e = rw (f, e)
+
+  -- and 19 before 10
+  pub listed-first :
+      checkNames (partial b) (people b) m ≡ fine → checkListed b m ≡ refused number place second → checkMatching b m ≡ refused number place second
+  unfolding checkMatching
+  listed-first e g = rw (f, e, g)

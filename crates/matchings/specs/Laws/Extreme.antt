@@ -1,7 +1,6 @@
 -- The two extreme matchings of a book, over all its stable matchings: those that the check finds nothing against, and
 -- no pair blocks (StableCheck.fine-stable). A lower rank is a better one. Assumes nothing.
 use Prim.Native.Nat.{ℕ, _≤_, _<_}
-use mathlib.Core.Path.{_≡_}
 use mathlib.Core.List.{List}
 use native.Mathlib.Omega.{arith}
 use Rattle.format.specs.Format.{people}

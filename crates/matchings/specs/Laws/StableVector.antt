@@ -1,14 +1,13 @@
 -- The check of a matching and the theory: nothing is refused exactly where the place vector is stable in the market of
 -- the book, and a matching and its place vector are made from each other. Assumes nothing.
 use Prim.Native.Nat.{ℕ, _≤_, _<_}
-use mathlib.Core.Path.{_≡_, refl, sym, _∙_, ap}
-use mathlib.Core.Bool.{Bool, true, false}
+use mathlib.Core.Path.{_≡_, sym, _∙_, ap}
+use mathlib.Core.Bool.{true}
 use mathlib.Core.List.{List}
 use native.Mathlib.Omega.{arith}
 use lib.ListN.{length}
-use lib.Dec.{ltb}
 use borrow.Author.Tests.{lt-ltb, le-ltb}
-use Rattle.laws.specs.Choice.{pick, split, tested}
+use Rattle.laws.specs.Choice.{split, tested}
 use Rattle.laws.specs.Values.{length-values}
 use Rattle.format.specs.Verdict.{fine}
 use Rattle.format.specs.Format.{partial, people, nobody}
@@ -18,11 +17,11 @@ use Rattle.stable_theory.specs.Stable.Vector.{Stable}
 use Rattle.stable_theory.specs.Stable.Holding.{stable-same}
 use Rattle.stable_theory.specs.Stable.Holder.{holder, mirror, holder-holds}
 use Rattle.stable_theory.specs.Stable.Mirror.{mirror-held, mirror-free}
-use Rattle.stable_theory.specs.Matchings.Matching.{Matching, StableMatching, places, partners}
-use Rattle.stable_theory.specs.Matchings.MatchingLaws.{places-placed, places-alone, places-holds, holds-places, stable-iff, partners-placed, partners-alone, places-partners, partners-stable, partners-matching}
+use Rattle.stable_theory.specs.Matchings.Matching.{Matching, StableMatching, partners}
+use Rattle.stable_theory.specs.Matchings.MatchingLaws.{places-placed, places-alone, places-holds, holds-places, stable-iff, partners-placed, partners-matching}
 use Rattle.stable_theory.specs.Matchings.Perfect.{stable-full}
 use Rattle.matchings.specs.BookMarket.{market, market-proper, market-complete}
-use Rattle.matchings.specs.Matching.{manRank, manLength, vectorOf, manChoice, womanRank, womanOf, manOf, checkMatching, EntryOf, placed, unplaced, MatchingIn, StableIn}
+use Rattle.matchings.specs.Matching.{manRank, manLength, vectorOf, manChoice, womanRank, womanOf, manOf, checkMatching, placed, unplaced, MatchingIn, StableIn}
 use Rattle.matchings.specs.Extreme.{partnerAt, matchingOf}
 use Rattle.matchings.specs.Laws.Entries.{nobody-most}
 use Rattle.matchings.specs.Laws.Blocking.{man-of-has, man-of-of, alone-rank, alone-entry, free-rank, blocks-theory}
@@ -115,6 +114,23 @@ matching-back {b} {m} A =
         partner-placed b (vectorOf b m) (placed-on A u l)
         ∙ ap (manChoice b i) (place-rank A u) ∙ choice-at (A .formed) u l (A .listed i u l .lists))
 
+-- going from places on the lists or at their ends to the matching and back returns them
+pub within-back :
+    {b : List ℕ} → WellFormed b → (p : ℕ → ℕ) → {i : ℕ} → i < people b → p i ≤ manLength b i → vectorOf b (matchingOf b p) i ≡ p i
+unfolding market
+within-back {b} W p {i} u h =
+    let m = matchingOf b p in
+    let here = entry-stored (people b) (partnerAt b p) u in
+    split (manLength b i) (p i)
+    (λ k.
+    let l : people b ≤ womanOf m i = omega (arith, here, partner-alone b p k, nobody-most W) in
+    omega (arith, places-alone (market b) (womanOf m) i l))
+    (λ k.
+    let e = here ∙ partner-placed b p k in
+    let R = market-proper W .proposing in
+    let l : womanOf m i < people b = omega (arith, e, R .at-lt {i = i} {k = p i} u k) in
+    places-placed (market b) (womanOf m) i l ∙ ap (manRank b i) e ∙ R .place-at {i = i} {k = p i} u k)
+
 module _ {b : List ℕ} (W : WellFormed b) {p : ℕ → ℕ} (P : Stable (market b) p) where
   -- entry i of its matching is the partner of student i, or nobody
   pub matching-entry : {i : ℕ} → i < people b → womanOf (matchingOf b p) i ≡ partnerAt b p i
@@ -164,13 +180,7 @@ module _ {b : List ℕ} (W : WellFormed b) {p : ℕ → ℕ} (P : Stable (market
   -- going to its matching and back returns it
   pub vector-back : {i : ℕ} → i < people b → vectorOf b (matchingOf b p) i ≡ p i
   unfolding market
-  vector-back {i} u =
-      split (manLength b i) (p i)
-      (λ k.
-      let l : people b ≤ womanOf (matchingOf b p) i = omega (arith, matching-nobody u k, nobody-most W) in
-      omega (arith, places-alone (market b) (womanOf (matchingOf b p)) i l, P .settled .within .bound {i = i} u))
-      (λ k.
-      place-rank matching-of u ∙ ap (manRank b i) (matching-at u k) ∙ market-proper W .proposing .place-at {i = i} {k = p i} u k)
+  vector-back {i} u = within-back W p u (P .settled .within .bound {i = i} u)
 
   -- and no pair blocks it
   pub stable-of : StableIn b (matchingOf b p)

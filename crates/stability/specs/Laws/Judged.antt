@@ -2,6 +2,7 @@
 -- refused the places are the two sides of one stable vector of the book's market. Assumes nothing.
 use Prim.Native.Nat.{ℕ}
 use mathlib.Core.Path.{_≡_, refl, sym, _∙_}
+use mathlib.Core.Bool.{Bool}
 use mathlib.Core.List.{List}
 use Rattle.laws.specs.Values.{vec}
 use Rattle.format.specs.declared.verdict.Checked.{Checked}
@@ -25,11 +26,12 @@ use Rattle.instances.specs.Laws.Read.{record-read, read-usable}
 use Rattle.stability.specs.Judge.{JudgedIs, instanceOf, FromFine, Judges}
 
 -- What is made of a book in which nothing is refused
-pub from-fine : {b : List ℕ} {i : Instance} {R : Record} → Recorded b i R → verdictOf (i .checked) ≡ fine → FromFine R
-from-fine {b} B e = record { book = b; recorded = record { checked = sym e ∙ B .checked; tables = B .tables; number = refl } }
+pub from-fine : {b : List ℕ} {i : Instance} {R : Record} → Recorded b i R → verdictOf (i .checked) ≡ fine → FromFine (i .partial) R
+from-fine {b} B e =
+    record { book = b; recorded = record { checked = sym e ∙ B .checked; partial = B .partial; tables = B .tables; number = refl } }
 
 -- can be worked on
-pub fine-usable : {R : Record} → FromFine R → Usable R
+pub fine-usable : {partial : Bool} {R : Record} → FromFine partial R → Usable R
 fine-usable F = read-usable (record-read (F .recorded) refl)
 
 -- The record and the answer are those of a book and a matching
@@ -38,8 +40,8 @@ pub record BookJudged (b m : List ℕ) (R : Record) (r : Judged) : Type 0 where
   pub judged : JudgedIs b m r
 
 pub book-judged :
-    {b m : List ℕ} {answer : Checked} {R : Record} {r : Judged} →
-    Recorded b (instanceOf answer R) R → Judges answer R m r → BookJudged b m R r
+    {b m : List ℕ} {answer : Checked} {partial : Bool} {R : Record} {r : Judged} →
+    Recorded b (instanceOf answer partial R) R → Judges answer partial R m r → BookJudged b m R r
 book-judged {b} B J = record { tables = B .tables; judged = J b B }
 
 -- The matching is stable

@@ -9,7 +9,7 @@ use Rattle.format.specs.Laws.Outcome.{filled-refused}
 use Rattle.matchings.specs.BookMarket.{market-proper}
 use Rattle.matchings.specs.Extreme.{checkExtreme}
 use Rattle.instances.specs.Laws.BookTables.{usable, usable-alike}
-use Rattle.extremes.specs.Laws.ExtremePlaces.{extreme-alike, extreme-stable}
+use Rattle.extremes.specs.Laws.ExtremePlaces.{extreme-alike}
 use Rattle.extremes.specs.Laws.ExtremeBytes.{room-verdict, room-formed, room-tables, room-fits, women-filled}
 use Rattle.extremes.proofs.written.extreme_with.Statement.{statement}
 use Rattle.extremes.proofs.written.extreme_with.Tie as tie
@@ -57,7 +57,7 @@ returns-2 c =
     let U = usable W T in
     let x = start (loaded (roomed d)) .args .proposers in (
       verdict (roomed d),
-      women-filled W T (extreme-stable x (U .men .proper)) (extreme-alike x (U .men .proper) (market-proper W) (usable-alike W T)) e refl _ _ (m .write-extreme .ensures),
+      women-filled W T (extreme-alike x (U .men .proper) (market-proper W) (usable-alike W T)) e refl _ _ (m .write-extreme .ensures),
     )
 
 pub extreme-with-spec : {M : Type 1} → statement M

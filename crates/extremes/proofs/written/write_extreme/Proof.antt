@@ -1,6 +1,6 @@
 -- `write_extreme` meets its contract: the women at the places are written. Assumes nothing.
 use Prim.Native.Nat.{ℕ}
-use mathlib.Core.Path.{refl, _∙_, ap}
+use mathlib.Core.Path.{_∙_, ap}
 use mathlib.Core.List.{List, _++_}
 use native.Mathlib.Omega.{arith}
 use lib.ListN.{drop}
@@ -14,7 +14,7 @@ write-matching-requires c κs =
     let s : tie.Start = search in
     let d : tie.After-extreme-places = search in
     let P = d .extreme-places .ensures in
-    places-writable (s .pre .0) (P .stable) (λ i u. refl) (omega (arith, P .men-long, s .pre .0 .few)) (s .pre .1)
+    places-writable (s .pre .0) (omega (arith, P .men-long, s .pre .0 .few)) (s .pre .1)
 
 returns : tie.Need-returns
 returns c =

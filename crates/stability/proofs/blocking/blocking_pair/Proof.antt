@@ -1,6 +1,6 @@
 -- `blocking_pair` meets its contract: where the women's side does not rule it out, the lowest man with a willing woman
 -- before his place is refused with the first such woman. Assumes nothing.
-use Prim.Native.Nat.{_<_}
+use Prim.Native.Nat.{_≤_, _<_}
 use mathlib.Core.Path.{sym}
 use native.Mathlib.Omega.{arith}
 use borrow.Author.Needs.{needs}
@@ -39,12 +39,12 @@ found c = record { ends = c .before .wide .ensures .0; stops = c .first-willing 
 stops : (c : tie.After-first-willing) → c .first-willing .result < c .before .wide .result
 stops c = tables-found _ _ _ _ (low c .lowest-willing .ensures) (some c .if2 .left) (found c)
 
--- which is on the list
+-- which is on the list or at its end
 on :
     (c : tie.After-wide) →
     let s : tie.Start = search in
     let l : tie.After-lowest-willing = search in
-    c .wide .result < lenIn (s .args .n) (s .args .n) (s .args .mlists .now) (l .lowest-willing .result)
+    c .wide .result ≤ lenIn (s .args .n) (s .args .n) (s .args .mlists .now) (l .lowest-willing .result)
 on c =
     let s : tie.Start = search in
     let e : tie.Else2 = search in
@@ -54,7 +54,7 @@ first-willing-requires : tie.Need-first-willing-requires
 first-willing-requires c κs =
     let s : tie.Start = search in
     let e : tie.Else2 = search in
-    (men-searchable (s .pre), (e .if2 .left, omega (arith, on c)))
+    (men-searchable (s .pre), (e .if2 .left, on c))
 
 list-at-requires : tie.Need-list-at-requires
 list-at-requires c κs = stored-index (start c .pre .usable .men .proposers) (some c .if2 .left) (omega (arith, stops c, on (c .before)))
