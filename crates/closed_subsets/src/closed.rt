@@ -1,6 +1,5 @@
 // Closed sets: the marks of a set, the places of its matching, and whether these are stable and past its rotations and
 // no others, which is whether it is closed.
-use book::mark_in;
 use extremes::write_matching;
 use format::Checked;
 use format::Instance;
@@ -8,6 +7,7 @@ use matchings::Places;
 use precedence::next_start;
 use precedence::past;
 use rotation_elimination::eliminate;
+use rows::mark_in;
 use stability::judge;
 ghost use mathlib.Core.Path.{_≡_};
 ghost use mathlib.Core.Bool.{not};
@@ -114,10 +114,11 @@ fn has_set(n: usize, ranks: &[u16], list: &[u16], set: &[u8], places: &[u16]) ->
     true
 }
 
-// Whether places on the men's lists are stable: whether the check finds nothing against the matching of the women
-// there.
+// Whether places on the men's lists or at their ends are stable: whether the check finds nothing against the matching
+// of the women there.
 fn is_stable(
     n: usize,
+    partial: bool,
     mlists: &[u16],
     mranks: &[u16],
     wlists: &[u16],
@@ -126,7 +127,7 @@ fn is_stable(
 ) -> bool
     ghost { Record }
     requires { λ R. ⌜ lent n mlists mranks wlists wranks ≡ R ⌝ }
-    requires { λ R. ⌜ FromFine R ⌝ }
+    requires { λ R. ⌜ FromFine partial R ⌝ }
     requires { λ _. ⌜ OnLists n (now mlists) men ⌝ }
     ensures { λ R r. ⌜ StableIs (marketIn R) (vec men) r ⌝ }
 {
@@ -135,6 +136,7 @@ fn is_stable(
     let judged = judge(
         Checked::Fine,
         n,
+        partial,
         mlists,
         mranks,
         wlists,
@@ -171,6 +173,7 @@ pub fn set_places<'a>(
 // Whether places are stable and past the rotations of a set and no others.
 pub fn closes(
     n: usize,
+    partial: bool,
     mlists: &[u16],
     mranks: &[u16],
     wlists: &[u16],
@@ -181,13 +184,13 @@ pub fn closes(
 ) -> bool
     ghost { Record }
     requires { λ R. ⌜ lent n mlists mranks wlists wranks ≡ R ⌝ }
-    requires { λ R. ⌜ FromFine R ⌝ }
+    requires { λ R. ⌜ FromFine partial R ⌝ }
     requires { λ _. ⌜ OnLists n (now mlists) men ⌝ }
     requires { λ _. ⌜ Readable n (length (now set)) (now list) ⌝ }
     ensures { λ R r. ⌜ ClosesIs (marketIn R) (vec men) (length (now₀ set))
         (pastNumber n (now₀ mranks) (now₀ list) (vec men)) (member (now₀ set)) r ⌝ }
 {
-    if !is_stable(n, mlists, mranks, wlists, wranks, men) {
+    if !is_stable(n, partial, mlists, mranks, wlists, wranks, men) {
         return false;
     }
     has_set(n, mranks, list, set, &men)

@@ -1,8 +1,5 @@
 // The closed set of a stable matching: the rotations that its places are past, one mark, 0 or 1, a rotation.
-use book::count_after;
 use book::is_small;
-use book::put_mark;
-use book::refuse;
 use format::Checked;
 use format::Counted;
 use format::Instance;
@@ -12,6 +9,9 @@ use record::load;
 use rotation_numbering::ROOM;
 use rotation_numbering::SMALL_ROOM;
 use rotation_numbering::number_all;
+use rows::count_after;
+use rows::put_mark;
+use rows::refuse;
 use stability::judge;
 ghost use mathlib.Core.Path.{_≡_};
 ghost use mathlib.Core.List.{_++_};
@@ -99,7 +99,16 @@ fn matching_with(
     let instance = load(book, mlists, mranks, wlists, wranks);
     let read = instance.checked;
     let n = instance.n;
-    let judged = judge(read, n, mlists, mranks, wlists, wranks, matching);
+    let judged = judge(
+        read,
+        n,
+        instance.partial,
+        mlists,
+        mranks,
+        wlists,
+        wranks,
+        matching,
+    );
     let answer = judged.checked;
     let Checked::Fine = answer else {
         return count_after(answer, 0);

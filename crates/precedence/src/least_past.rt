@@ -1,12 +1,12 @@
 // The least stable places past a rotation: from the student-best places its first man is pushed on until he is at or
 // after the place to which it moves him. A stable vector in which he is so is past the whole rotation.
-use book::man_numbered;
-use book::woman_numbered;
 use extremes::man_optimal_places;
 use format::Instance;
 use format::Man;
 use format::Woman;
 use pushing::push;
+use rows::man_numbered;
+use rows::woman_numbered;
 use tables::entry;
 use tables::wide;
 ghost use mathlib.Core.Path.{_≡_};
@@ -45,7 +45,7 @@ pub(crate) fn place_after(n: usize, ranks: &[u16], list: &[u16], at: usize) -> u
 {
     let m = first_man(list, at);
     let w = next_woman(list, at);
-    entry(ranks, n, book::wide(m.0), book::wide(w.0))
+    entry(ranks, n, rows::wide(m.0), rows::wide(w.0))
 }
 
 // Copies places.
@@ -107,7 +107,7 @@ pub(crate) fn least_past<'a>(
     ensures { λ R r. ⌜ LeastPast R (now₀ list) at (vec r) × (length r ≡ largest) ⌝ }
 {
     let m = first_man(list, at);
-    let s = book::wide(m.0);
+    let s = rows::wide(m.0);
     let goal = place_after(n, mranks, list, at);
     let places = man_optimal_places(n, mlists, wlists, wranks);
     let mut men = places.men;

@@ -3,7 +3,6 @@ use crate::least_past::first_man;
 use crate::least_past::least_past;
 use crate::least_past::place_after;
 use book::is_small;
-use book::refuse;
 use format::Checked;
 use format::Instance;
 use record::load;
@@ -11,6 +10,7 @@ use rotation_numbering::ROOM;
 use rotation_numbering::SMALL_ROOM;
 use rotation_numbering::number_all;
 use rotations::Precedence;
+use rows::refuse;
 use tables::wide;
 ghost use mathlib.Core.Path.{_≡_};
 ghost use Prim.Native.Nat.{ℕ, _+_, _*_, _≤_, _<_};
@@ -177,6 +177,6 @@ pub fn past(n: usize, ranks: &[u16], list: &[u16], at: usize, places: &[u16]) ->
     ensures { λ r. ⌜ r ≡ pastIn n (now₀ ranks) (now₀ list) at (vec₀ places) ⌝ }
 {
     let m = first_man(list, at);
-    let i = book::wide(m.0);
+    let i = rows::wide(m.0);
     place_after(n, ranks, list, at) <= wide(places[i])
 }

@@ -1,5 +1,4 @@
 // The number of rotations of a book, without their list: one pass over all of them in any order.
-use book::count_after;
 use book::is_small;
 use extremes::man_optimal_places;
 use format::Checked;
@@ -7,6 +6,7 @@ use format::Counted;
 use format::Instance;
 use pair_groups::group_from;
 use record::load;
+use rows::count_after;
 ghost use mathlib.Core.Path.{_≡_};
 ghost use Rattle.laws.specs.Moment.{now₀};
 ghost use Rattle.format.specs.Outcome.{countOutcome};

@@ -1,9 +1,6 @@
 // The list of rotations: each by its number of pairs and then man and woman of each pair, from its lowest man, end to
 // end in order of number.
-use book::count_after;
 use book::is_small;
-use book::put_number;
-use book::refuse;
 use format::Checked;
 use format::Counted;
 use format::Instance;
@@ -11,6 +8,9 @@ use record::load;
 use rotation_numbering::ROOM;
 use rotation_numbering::SMALL_ROOM;
 use rotation_numbering::number_all;
+use rows::count_after;
+use rows::put_number;
+use rows::refuse;
 ghost use mathlib.Core.Path.{_≡_};
 ghost use mathlib.Core.List.{_++_};
 ghost use Prim.Native.Nat.{ℕ, _≤_, _<_};

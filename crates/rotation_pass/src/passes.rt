@@ -39,8 +39,8 @@ pub fn pass<'a>(
     requires { λ _. ⌜ (n ≤ length (now given)) × (n ≤ length (now ends)) ⌝ }
     requires { λ K. ⌜ Start (market K) (vec (now p)) (vec (now t)) (vec (now given)) (vec (now ends)) ⌝ }
     ensures { λ K r. ⌜ r ≡ total (market K) ⌝ }
-    ensures { λ K _. ⌜ Grouped n (IsDown (market K) (vec₀ given)) (vec₁ down) ⌝ }
-    ensures { λ K _. ⌜ Grouped n (IsUp (market K) (vec₀ given)) (vec₁ up) ⌝ }
+    ensures { λ K _. ⌜ Grouped (market K) (vec₀ given) IsDown (vec₁ down) ⌝ }
+    ensures { λ K _. ⌜ Grouped (market K) (vec₀ given) IsUp (vec₁ up) ⌝ }
     ensures { λ K _. ⌜ Same (market K) (vec₁ p) (vec₀ ends) ⌝ }
 {
     begin(n, mlists, wlists, ends, p, held, on);

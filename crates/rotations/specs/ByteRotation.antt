@@ -1,7 +1,7 @@
--- Rotations in the words of document 01, 'Matching, rotation, repair', over the bytes of a book b and of a matching m:
--- `womanOf m i` is the mentor of student i in m, `manOf (people b) m w` the student of mentor w, `manRank b i w` the
--- place of mentor w on student i's list and `womanRank b w i` that of student i on hers. A lower place is a better one.
--- Assumes nothing.
+-- Rotations in the words of document 01, 'Matching, rotation, repair', and of W-203 on mentors who are alone, over the
+-- bytes of a book b and of a matching m: `womanOf m i` is the mentor of student i in m, `manOf (people b) m w` the
+-- student of mentor w, `manRank b i w` the place of mentor w on student i's list and `womanRank b w i` that of student
+-- i on hers. A lower place is a better one. Assumes nothing.
 use Prim.Native.Nat.{ℕ, suc, _≤_, _<_}
 use mathlib.Core.Path.{_≡_}
 use mathlib.Core.Bool.{true}
@@ -13,27 +13,24 @@ use Rattle.laws.specs.Choice.{pick}
 use Rattle.laws.specs.First.{first}
 use Rattle.laws.specs.Values.{values}
 use Rattle.format.specs.Format.{people, markIn}
-use Rattle.matchings.specs.BookMarket.{market}
-use Rattle.matchings.specs.Matching.{manRank, womanRank, womanOf, manOf}
+use Rattle.matchings.specs.Matching.{manRank, womanRank, manLength, womanOf, manOf}
 use Rattle.matchings.specs.Extreme.{manOptimal}
 use Rattle.rotations.specs.Sets.{member}
 
--- How long student i's list is
-abbrev pub manLength : List ℕ → ℕ → ℕ
-manLength b i = market b .proposers .len i
-
--- Mentor w stands below the present mentor of student i on his list, and ranks him above her own present student (she
--- has one, lists being complete)
+-- Mentor w stands below the present mentor of student i on his list, and is alone or ranks him above her own present
+-- student (who is alone has the end of the list for a place, so that one comparison says both)
 pub record WillingIn (b m : List ℕ) (i w : ℕ) : Type 0 where
   pub man : i < people b
   pub listed : manRank b i w < manLength b i
   pub below : manRank b i (womanOf m i) < manRank b i w
   pub prefers : womanRank b w i < womanRank b w (manOf (people b) m w)
 
--- In m the next mentor of student i is w: the first such one on his list. There may be none
+-- In m the next mentor of student i is w: the first such one on his list, and she is not alone. There may be none. A
+-- mentor who is alone ends the search for a next mentor: there is none
 pub record NextIn (b m : List ℕ) (i w : ℕ) : Type 0 where
   pub willing : WillingIn b m i w
   pub first : (v : ℕ) → WillingIn b m i v → manRank b i w ≤ manRank b i v
+  pub held : manOf (people b) m w < people b
 
 -- A pair of a student and a mentor
 pub record Pair : Type 0 where

@@ -1,7 +1,7 @@
 -- The second half of demand 2, whole: "the rotations and their order are those of the published theory, and going from
 -- a closed set of rotations to its matching and back, or the reverse, returns the start". The words are document 01's
--- (ByteRotation.antt), over the bytes of a book and of its matchings; what is promised is of the replies, buffers,
--- matchings and sets that the contracts cite. Each proof is a citation. Assumes nothing.
+-- (ByteRotation.antt), over the bytes of a book, whose lists have any length, and of its matchings; what is promised is
+-- of the replies, buffers, matchings and sets that the contracts cite. Each proof is a citation. Assumes nothing.
 use Prim.Native.Nat.{ℕ, suc, _≤_, _<_}
 use mathlib.Core.Path.{_≡_}
 use mathlib.Core.Bool.{true, false}
@@ -12,13 +12,13 @@ use Rattle.format.specs.Verdict.{fine, broken}
 use Rattle.format.specs.Outcome.{gives}
 use Rattle.format.specs.Format.{people}
 use Rattle.format.specs.WellFormed.{WellFormed}
-use Rattle.matchings.specs.Matching.{womanOf, checkMatching}
+use Rattle.matchings.specs.Matching.{manRank, womanOf, manOf, checkMatching}
 use Rattle.matchings.specs.Laws.StableCheck.{fine-stable}
 use Rattle.rotations.specs.RotationList.{countReply, listReply, listBuffer}
 use Rattle.rotations.specs.Precedence.{precedenceReply}
 use Rattle.rotations.specs.Sets.{checkSet, setMatching, matchingSet}
-use Rattle.rotations.specs.ByteRotation.{Pairs, pairAt, NextIn, CycleIn, writtenFrom, ExposedIn, eliminated, NumberedIn, rotationNumber, bytesOf, endToEnd, RunTo, OneOf, EachOnce, PrecedesIn, SetIn, ClosedIn, Exactly}
-use Rattle.rotations.specs.Laws.NextMentors.{next-one}
+use Rattle.rotations.specs.ByteRotation.{Pairs, pairAt, WillingIn, NextIn, CycleIn, writtenFrom, ExposedIn, eliminated, NumberedIn, rotationNumber, bytesOf, endToEnd, RunTo, OneOf, EachOnce, PrecedesIn, SetIn, ClosedIn, Exactly}
+use Rattle.rotations.specs.Laws.NextMentors.{willing-placed, next-before-alone, next-one}
 use Rattle.rotations.specs.Laws.WrittenCycles.{cycle-exposed}
 use Rattle.rotations.specs.Laws.Eliminations.{eliminated-next, eliminated-keeps, eliminated-stable}
 use Rattle.rotations.specs.Laws.EliminationRuns.{run-to-stable}
@@ -33,6 +33,14 @@ module _ (b m : List ℕ) (stable : checkMatching b m ≡ fine) where
   -- a student has one next mentor at most
   pub next-at-most : (i w v : ℕ) → NextIn b m i w → NextIn b m i v → w ≡ v
   next-at-most i w v N O = next-one (fine-stable b m .0 stable) N O
+
+  -- who is alone has none
+  pub next-placed : (i w : ℕ) → NextIn b m i w → womanOf m i < people b
+  next-placed i w N = willing-placed (fine-stable b m .0 stable .matching) (N .willing)
+
+  -- a mentor who is alone ends the search for a next mentor: if there is one, she stands above the one who is alone
+  pub next-above-alone : (i w v : ℕ) → NextIn b m i w → WillingIn b m i v → people b ≤ manOf (people b) m v → manRank b i w < manRank b i v
+  next-above-alone i w v N c l = next-before-alone (fine-stable b m .0 stable .matching) N c l
 
   -- a cycle of pairs, whichever pair it is written from, is a rotation when it is written from its lowest student
   pub cycle-rotation : (ρ : Pairs) → CycleIn b m ρ → (k : ℕ) × (k < length ρ) × ExposedIn b m (writtenFrom k ρ)

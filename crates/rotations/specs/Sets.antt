@@ -51,7 +51,7 @@ setMatching b set = matchingOf b (setVector b set)
 abbrev pub setMatchingBuffer : List ℕ → List ℕ → List ℕ → List ℕ
 setMatchingBuffer b set out = filled (checkSet b set (length out)) (people b) (setMatching b set) out
 
--- The verdict on a matching and a buffer for its set: the book, 8, 9, 10, 14
+-- The verdict on a matching and a buffer for its set: the book, 8, 9, 19, 10, 14
 abbrev pub checkMatchingSet : List ℕ → List ℕ → ℕ → Verdict
 checkMatchingSet b m room = andThen (checkMatching b m) (checkRoom (rotationCount b) room)
 

@@ -1,6 +1,5 @@
 // The matching of a closed set of rotations. A set is one mark, 0 or 1, a rotation.
 use book::is_small;
-use book::refuse;
 use closed_subsets::bad_marks;
 use closed_subsets::closes;
 use closed_subsets::set_places;
@@ -12,6 +11,7 @@ use record::load;
 use rotation_numbering::ROOM;
 use rotation_numbering::SMALL_ROOM;
 use rotation_numbering::number_all;
+use rows::refuse;
 ghost use mathlib.Core.Path.{_≡_};
 ghost use lib.ListN.{length};
 ghost use Rattle.laws.specs.Moment.{now₀, now₁};
@@ -90,7 +90,17 @@ fn set_with(
     }
     let places = man_optimal_places(n, mlists, wlists, wranks);
     let men = set_places(n, mranks, wranks, places, list, set);
-    let closed = closes(n, mlists, mranks, wlists, wranks, list, set, men);
+    let closed = closes(
+        n,
+        instance.partial,
+        mlists,
+        mranks,
+        wlists,
+        wranks,
+        list,
+        set,
+        men,
+    );
     if !closed {
         return refuse(16, 0);
     }

@@ -14,6 +14,7 @@ use Rattle.laws.specs.Choice.{tested}
 use Rattle.laws.specs.Values.{vec}
 use Rattle.format.specs.Format.{largest}
 use Rattle.stable_theory.specs.Stable.Market.{Market}
+use Rattle.stable_theory.specs.Stable.Vector.{Within}
 use Rattle.stable_theory.specs.Stable.Holding.{Same}
 use Rattle.stable_theory.specs.Rotations.Rotation.{Rotation, Exposed, SamePairs, eliminate}
 use Rattle.stable_theory.specs.Rotations.Eliminate.{turn, turn-in, eliminate-in, eliminate-out}
@@ -69,15 +70,15 @@ module _ (I : Market) (s : ℕ → Bool) where
       (λ a. after-in ρ p k a i ∙ (eliminate-same I (h k (omega arith)) (after I ρ p s k) i ∙ (eliminate-agree I (σ k) ih i u ∙ sym (after-in σ q k a i))))
       (λ a. after-out ρ p k a i ∙ (ih i u ∙ sym (after-out σ q k a i)))
 
-  -- who is placed stays so
-  pub after-placed :
+  -- no place is past the end of a list
+  pub after-within :
       {ρ : ℕ → Rotation} {p : ℕ → ℕ} (k : ℕ) (v : ℕ → ℕ → ℕ) → ((j : ℕ) → j < k → Exposed I (v j) (ρ j)) →
-      ((i : ℕ) → i < I .proposers .size → p i < I .proposers .len i) → (i : ℕ) → i < I .proposers .size → after I ρ p s k i < I .proposers .len i
+      Within I p → (i : ℕ) → i < I .proposers .size → after I ρ p s k i ≤ I .proposers .len i
   unfolding after
-  after-placed zero v X on i u = on i u
-  after-placed {ρ} {p} (suc k) v X on i u =
+  after-within zero v X P i u = P .bound u
+  after-within {ρ} {p} (suc k) v X P i u =
       let Y = X k (omega arith) in
-      let before = after-placed {ρ = ρ} k v (λ j g. X j (omega arith)) on i u in
+      let before = after-within {ρ = ρ} k v (λ j g. X j (omega arith)) P i u in
       tested (s k)
       (λ a. turn Y i
       (λ t. omega (arith, after-in ρ p k a i, eliminate-in I (ρ k) (after I ρ p s k) (turn-in t), eliminate-in I (ρ k) (v k) (turn-in t), t .to, t .next .pair .lists))

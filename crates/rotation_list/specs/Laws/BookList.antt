@@ -1,6 +1,6 @@
 -- The numbering of a record is that of its book: what the functions on books read from it. Assumes nothing.
 use Prim.Native.Nat.{ℕ, _≤_, _<_}
-use mathlib.Core.Path.{_≡_, sym, _∙_, ap₂}
+use mathlib.Core.Path.{_≡_, refl, sym, _∙_, ap₂}
 use mathlib.Core.List.{List, _++_}
 use native.Mathlib.Omega.{arith}
 use lib.ListN.{length, take, drop}
@@ -14,7 +14,7 @@ use Rattle.stable_theory.specs.Rotations.Numbering.{total, rotation}
 use Rattle.stable_theory.specs.Rotations.Subset.{prefix}
 use Rattle.stable_theory.specs.Rotations.Canonical.{rotations-complete}
 use Rattle.stable_theory.specs.Rotations.Rebuild.{run-vector}
-use Rattle.matchings.specs.BookMarket.{market, market-proper, market-complete}
+use Rattle.matchings.specs.BookMarket.{market, market-proper}
 use Rattle.rotation_numbering.specs.declared.numbering.Extent.{Extent}
 use Rattle.rotation_ordering.specs.Ordering.{Numbered}
 use Rattle.rotation_numbering.specs.Numbering.{NumberingOf}
@@ -36,7 +36,7 @@ module _ {b : List ℕ} {r : Record} (R : Read b r) where
   pub numbered-small : (j : ℕ) → j < total (market b) → Small (people b) (rotation (market b) j)
   unfolding market
   numbered-small j h =
-      exposed-small (market-proper (R .formed)) (market-complete (R .formed) .even) (before-stable j (omega arith)) (numbered-exposed h)
+      exposed-small (market-proper (R .formed)) refl (before-stable j (omega arith)) (numbered-exposed h)
 
   module _ {numbers : List ℕ} {s : Extent} (N : NumberingOf r numbers s) where
     -- the list is of the book's rotations

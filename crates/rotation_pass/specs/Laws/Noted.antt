@@ -69,7 +69,7 @@ module _ {I : Market} (M : Proper I) {q : ℕ → ℕ} (Q : Stable I q) {ρ : Ro
     -- where he is due goes by his new place, and where the others are by theirs
     shares-with :
         {due′ down′ up′ : ℕ → ℕ} → ((s : ℕ) → (s ≡ m → ⊥) → due′ s ≡ due s) → (k < g m → due′ m ≡ g m) → (k ≡ g m → due′ m ≡ 0) → (g m < k → due′ m ≡ 65535) →
-        Names (I .proposers .size) (IsDown I g) (λ s. g s < p′ s) down′ → Names (I .proposers .size) (IsUp I g) (λ s. g s ≤ p′ s) up′ →
+        Names I g IsDown (λ s. g s < p′ s) down′ → Names I g IsUp (λ s. g s ≤ p′ s) up′ →
         Shares I g p′ due′ down′ up′
     shares-with {due′} o above there below D U =
         record {
@@ -121,13 +121,17 @@ module _ {I : Market} (M : Proper I) {q : ℕ → ℕ} (Q : Stable I q) {ρ : Ro
       with-leaves : Leaves I g q ρ m
       with-leaves = record { turn = r; from = was-there ∙ at }
 
+      -- which is on his list
+      leaves-placed : g m < I .proposers .len m
+      leaves-placed = omega (arith, was-there, at, r .next .below, r .next .pair .lists)
+
       noted-leaves : {due′ down′ up′ : ℕ → ℕ} {dlead′ : ℕ} → Changed m 65535 due due′ → Named (I .proposers .size) dlead m down down′ dlead′ → ((l : ℕ) → up′ l ≡ up l) → Shares I g p′ due′ down′ up′
       noted-leaves e d u =
           shares-with (e .others)
           (λ h. absurd (omega (arith, was-there, goes)))
           (λ h. absurd (omega (arith, was-there, goes)))
           (λ h. e .here)
-          (names-put (S .downs) (L .downs) d man (λ h. omega (arith, was-there)) with-leaves (leaves-alike with-leaves)
+          (names-put (S .downs) (L .downs) d man (λ h. omega (arith, was-there)) with-leaves leaves-placed (leaves-alike with-leaves)
           (omega (arith, C .here, was-there, goes)) down-on (λ s v ne h. omega (arith, C .others s ne)))
           (names-same (S .ups) u up-on (up-back (λ h. omega (arith, was-there))))
 
@@ -144,6 +148,10 @@ module _ {I : Market} (M : Proper I) {q : ℕ → ℕ} (Q : Stable I q) {ρ : Ro
       with-comes : Comes I g q ρ m
       with-comes = record { turn = r; to = is-there ∙ to }
 
+      -- which is on his list
+      comes-placed : g m < I .proposers .len m
+      comes-placed = omega (arith, is-there, to, r .to, r .next .pair .lists)
+
       noted-comes : {due′ down′ up′ : ℕ → ℕ} {ulead′ : ℕ} → Changed m 0 due due′ → ((l : ℕ) → down′ l ≡ down l) → Named (I .proposers .size) ulead m up up′ ulead′ → Shares I g p′ due′ down′ up′
       noted-comes e d u =
           shares-with (e .others)
@@ -151,7 +159,7 @@ module _ {I : Market} (M : Proper I) {q : ℕ → ℕ} (Q : Stable I q) {ρ : Ro
           (λ h. e .here)
           (λ h. absurd (omega (arith, is-there)))
           (names-same (S .downs) d down-on (down-back (λ h. absurd (omega (arith, is-there)))))
-          (names-put (S .ups) (L .ups) u man (λ h. omega (arith, was-above)) with-comes (comes-alike with-comes)
+          (names-put (S .ups) (L .ups) u man (λ h. omega (arith, was-above)) with-comes comes-placed (comes-alike with-comes)
           (omega (arith, C .here, is-there)) up-on (λ s v f h. omega (arith, C .others s f)))
 
     module _ {due′ down′ up′ : ℕ → ℕ} {dlead′ ulead′ : ℕ} where

@@ -82,7 +82,7 @@ module _ {I : Market} (M : Proper I) {g : ℕ → ℕ} {p t held due on frames d
   -- there is none: all rotations are found, who answers for whom is settled, and all men are at their ends
   pub passed-all :
       {kept marks : ℕ → ℕ} {found : Cycle} → FoundNext I (vec p) kept marks found → found .first ≡ 0 → {ends : ℕ → ℕ} → Same I ends (receiver-optimal I) →
-      (count ≡ total I) × (Grouped (I .proposers .size) (IsDown I g) (vec down) × (Grouped (I .proposers .size) (IsUp I g) (vec up) × Same I (vec p) ends))
+      (count ≡ total I) × (Grouped I g IsDown (vec down) × (Grouped I g IsUp (vec up) × Same I (vec p) ends))
   passed-all F z e =
       let ended = progress-end M (A .progress) F z in
       (progress-all M (A .progress) F z, (grouped-down M (A .shares) ended, (grouped-up M (A .shares) ended, λ s u. ended s u ∙ sym (e s u))))

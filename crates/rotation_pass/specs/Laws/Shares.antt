@@ -30,57 +30,59 @@ pub leading-same :
 leading-same {lead = lead} L e q =
     record { one = λ ne. let (l, o, w) = L .one (λ z. ne (q ∙ z)) in rw q (l, e lead ∙ o, w) }
 
-module _ {n : ℕ} {Repair : ℕ → (ℕ → ℕ) → Type 0} {Settled : ℕ → Type 0} {names : ℕ → ℕ} (N : Names n Repair Settled names) {names′ : ℕ → ℕ} where
+module _
+    {I : Market} {g : ℕ → ℕ} {Repair : Market → (ℕ → ℕ) → ℕ → (ℕ → ℕ) → Type 0} {Settled : ℕ → Type 0} {names : ℕ → ℕ}
+    (N : Names I g Repair Settled names) {names′ : ℕ → ℕ} where
   -- nothing is named, and nothing more is settled
   pub names-same :
-      {Settled′ : ℕ → Type 0} → ((l : ℕ) → names′ l ≡ names l) → ((s : ℕ) → s < n → Settled s → Settled′ s) →
-      ((s : ℕ) → s < n → Settled′ s → Settled s) → Names n Repair Settled′ names′
+      {Settled′ : ℕ → Type 0} → ((l : ℕ) → names′ l ≡ names l) → ((s : ℕ) → s < I .proposers .size → Settled s → Settled′ s) →
+      ((s : ℕ) → s < I .proposers .size → Settled′ s → Settled s) → Names I g Repair Settled′ names′
   names-same e there back =
       record {
         unnamed = λ {s} u f. e s ∙ N .unnamed u (λ z. f (there s u z));
         named = λ {s} u z. ⊎-elim
             (λ a. inl record { none = e s ∙ a .none; no-repair = a .no-repair })
-            (λ a. inr record { low = rw (e s) (a .low); own = rw (e s, e (names s)) (a .own); alike = rw (e s) (a .alike) })
+            (λ a. inr record { placed = a .placed; low = rw (e s) (a .low); own = rw (e s, e (names s)) (a .own); alike = rw (e s) (a .alike) })
             (N .named u (back s u z));
       }
 
   -- man m, of whom nothing is settled yet, is put with those who were moved with him
-  module _ {With : ℕ → Type 0} {lead m lead′ : ℕ} (L : Leading n With names lead) (P : Named n lead m names names′ lead′) (u : m < n) (not-yet : Settled m → ⊥) (with : With m) where
+  module _ {With : ℕ → Type 0} {lead m lead′ : ℕ} (L : Leading (I .proposers .size) With names lead) (P : Named (I .proposers .size) lead m names names′ lead′) (u : m < I .proposers .size) (not-yet : Settled m → ⊥) (with : With m) where
     -- his lead is one of them
-    lead-is : (lead′ < n) × (names′ lead′ ≡ lead′) × With lead′
+    lead-is : (lead′ < I .proposers .size) × (names′ lead′ ≡ lead′) × With lead′
     lead-is =
-        same lead n
-        (λ e. let q : lead′ ≡ m = P .is ∙ ap (λ b. pick b m lead) (eq-eqb lead n e) in
+        same lead (I .proposers .size)
+        (λ e. let q : lead′ ≡ m = P .is ∙ ap (λ b. pick b m lead) (eq-eqb lead (I .proposers .size) e) in
         (omega arith, ap names′ q ∙ (P .put .here), rw q with))
-        (λ ne. let q : lead′ ≡ lead = P .is ∙ ap (λ b. pick b m lead) (ne-eqb lead n ne) in
+        (λ ne. let q : lead′ ≡ lead = P .is ∙ ap (λ b. pick b m lead) (ne-eqb lead (I .proposers .size) ne) in
         let (l, o, w) = L .one ne in
         (omega arith, ap names′ q ∙ (P .put .others lead (λ z. omega (arith, N .unnamed u not-yet, ap names z)) ∙ (o ∙ sym q)), rw q w))
 
-    pub leading-put : Leading n With names′ lead′
+    pub leading-put : Leading (I .proposers .size) With names′ lead′
     leading-put = record { one = λ ne. lead-is }
 
     -- what was said of another man stands
-    named-other : {s : ℕ} → s < n → (s ≡ m → ⊥) → Settled s → NotLed n Repair names′ s ⊎ Led n Repair names′ s
+    named-other : {s : ℕ} → s < I .proposers .size → (s ≡ m → ⊥) → Settled s → NotLed I g Repair names′ s ⊎ Led I g Repair names′ s
     named-other {s} v ne z =
         let e = P .put .others s ne in
         ⊎-elim
         (λ a. inl record { none = e ∙ a .none; no-repair = a .no-repair })
         (λ a. let f = P .put .others (names s) (λ q. omega (arith, N .unnamed u not-yet, a .low, a .own, ap names q)) in
-        inr record { low = rw e (a .low); own = rw (e, f) (a .own); alike = rw e (a .alike) })
+        inr record { placed = a .placed; low = rw e (a .low); own = rw (e, f) (a .own); alike = rw e (a .alike) })
         (N .named v z)
 
     -- and now it is settled of him, too, and of nobody else
     pub names-put :
-        {Settled′ : ℕ → Type 0} → ((b : ℕ) → With b → (d : ℕ → ℕ) → Repair b d ↔ Repair m d) → Settled′ m →
-        ((s : ℕ) → s < n → Settled s → Settled′ s) → ((s : ℕ) → s < n → (s ≡ m → ⊥) → Settled′ s → Settled s) →
-        Names n Repair Settled′ names′
-    names-put like here there back =
+        {Settled′ : ℕ → Type 0} → g m < I .proposers .len m → ((b : ℕ) → With b → (d : ℕ → ℕ) → Repair I g b d ↔ Repair I g m d) → Settled′ m →
+        ((s : ℕ) → s < I .proposers .size → Settled s → Settled′ s) → ((s : ℕ) → s < I .proposers .size → (s ≡ m → ⊥) → Settled′ s → Settled s) →
+        Names I g Repair Settled′ names′
+    names-put on like here there back =
         let (l, o, w) = lead-is in
         let e = P .put .here in
         record {
           unnamed = λ {s} v f. same s m (λ q. absurd (f (rw q here))) (λ ne. P .put .others s ne ∙ N .unnamed v (λ z. f (there s v z)));
           named = λ {s} v z. same s m
-              (λ q. rw q (inr record { low = rw e l; own = rw e o; alike = rw e (like lead′ w) }))
+              (λ q. rw q (inr record { placed = on; low = rw e l; own = rw e o; alike = rw e (like lead′ w) }))
               (λ ne. named-other v ne (back s v ne z));
         }
 
@@ -108,7 +110,7 @@ module _ {I : Market} (M : Proper I) {g p due down up : ℕ → ℕ} where
 
   -- at the women's best who is at his given place has no repair down, and all others have left it
   module _ (S : Shares I g p due down up) (e : Same I p (receiver-optimal I)) where
-    pub grouped-down : Grouped (I .proposers .size) (IsDown I g) down
+    pub grouped-down : Grouped I g IsDown down
     grouped-down s u =
         split (p s) (g s)
         (λ h. inl record {
@@ -117,5 +119,5 @@ module _ {I : Market} (M : Proper I) {g p due down up : ℕ → ℕ} where
         })
         (λ h. S .downs .named u h)
 
-    pub grouped-up : Grouped (I .proposers .size) (IsUp I g) up
+    pub grouped-up : Grouped I g IsUp up
     grouped-up s u = S .ups .named u (omega (arith, e s u, receiver-optimal-last M (S .stable) s u))

@@ -14,18 +14,17 @@ use Rattle.format.specs.Format.{people}
 use Rattle.format.specs.Laws.Rows.{entry-stored, entries-same}
 use Rattle.stable_theory.specs.Stable.Vector.{Stable}
 use Rattle.stable_theory.specs.Stable.Holding.{Same}
-use Rattle.stable_theory.specs.Matchings.Matching.{partners}
 use Rattle.stable_theory.specs.Rotations.Rotation.{pairOf, eliminate}
 use Rattle.stable_theory.specs.Rotations.Eliminate.{eliminate-in, eliminate-out, pairOf-at}
 use Rattle.stable_theory.specs.Rotations.EliminateStable.{eliminate-stable}
 use Rattle.matchings.specs.BookMarket.{market, market-proper}
 use Rattle.matchings.specs.Matching.{manRank, manChoice, womanOf, vectorOf, StableIn}
-use Rattle.matchings.specs.Extreme.{matchingOf}
+use Rattle.matchings.specs.Extreme.{partnerAt, matchingOf}
 use Rattle.matchings.specs.Laws.StableCheck.{choice-at}
-use Rattle.matchings.specs.Laws.StableVector.{vector-stable, vector-back, matching-at, stable-of}
+use Rattle.matchings.specs.Laws.StableVector.{vector-stable, vector-back, matching-back, matching-entry, matching-at, stable-of}
 use Rattle.rotations.specs.ByteRotation.{Pairs, pairAt, pairNumber, NextIn, ExposedIn, eliminated}
 use Rattle.rotations.specs.Laws.PairLists.{cycleOf}
-use Rattle.rotations.specs.Laws.NextMentors.{place-present}
+use Rattle.rotations.specs.Laws.ThereAndBack.{partner-agree}
 use Rattle.rotations.specs.Laws.ExposedRotations.{cycle-next, exposed-theory}
 
 module _ {b m : List ℕ} (S : StableIn b m) {ρ : Pairs} (X : ExposedIn b m ρ) where
@@ -49,19 +48,29 @@ module _ {b m : List ℕ} (S : StableIn b m) {ρ : Pairs} (X : ExposedIn b m ρ)
   abbrev moves : ℕ → ℕ
   moves = eliminate (market b) (cycleOf ρ) (vectorOf b m)
 
-  -- are those of the new mentors
-  new-place : {i : ℕ} → i < people b → (womanOf (eliminated ρ m) i < people b) × (moves i ≡ manRank b i (womanOf (eliminated ρ m) i))
-  unfolding market pairOf
-  new-place {i} u =
-      let A = S .matching in
-      split (length ρ) (pairNumber ρ i)
-      (λ h. let e = kept u h in
-      (omega (arith, A .names .below u), eliminate-out (market b) (cycleOf ρ) (vectorOf b m) h ∙ (place-present A u ∙ ap (manRank b i) (sym e))))
-      (λ h. let e = moved u h in
-      (omega (arith, cycle-next A (X .cycle) (pairNumber ρ i) h .pair .receiver), eliminate-in (market b) (cycleOf ρ) (vectorOf b m) h ∙ ap (manRank b i) (sym e)))
-
+  -- are stable
   moves-stable : Stable (market b) moves
   moves-stable = eliminate-stable (market-proper (S .matching .formed)) (vector-stable S) (exposed-theory (S .matching) X)
+
+  -- and their matching has the new mentors: that of a student of the rotation
+  entry-moved : {i : ℕ} → i < people b → pairNumber ρ i < length ρ → womanOf (matchingOf b moves) i ≡ womanOf (eliminated ρ m) i
+  unfolding market pairOf
+  entry-moved {i} u h =
+      let W = S .matching .formed in
+      let w = pairAt ρ (suc (pairNumber ρ i)) .woman in
+      let e : moves i ≡ manRank b i w = eliminate-in (market b) (cycleOf ρ) (vectorOf b m) h in
+      let q : pairAt ρ (pairNumber ρ i) .man ≡ i = eqb-true _ _ (first-hit (λ k. eqb (pairAt ρ k .man) i) (length ρ) h) in
+      let a = rw q at (cycle-next (S .matching) (X .cycle) (pairNumber ρ i) h .pair) in
+      matching-at W moves-stable u (omega (arith, a .lists)) ∙ ap (manChoice b i) e ∙ choice-at W u (a .receiver) (a .lists) ∙ sym (moved u h)
+
+  -- and that of another, who has his own
+  entry-kept : {i : ℕ} → i < people b → length ρ ≤ pairNumber ρ i → womanOf (matchingOf b moves) i ≡ womanOf (eliminated ρ m) i
+  unfolding pairOf
+  entry-kept {i} u h =
+      let W = S .matching .formed in
+      matching-entry W moves-stable u
+      ∙ partner-agree b moves (vectorOf b m) (eliminate-out (market b) (cycleOf ρ) (vectorOf b m) h)
+      ∙ sym (matching-entry W (vector-stable S) u) ∙ ap (λ (r : List ℕ). womanOf r i) (matching-back (S .matching)) ∙ sym (kept u h)
 
   -- they are n
   long : length (eliminated ρ m) ≡ people b
@@ -71,13 +80,11 @@ module _ {b m : List ℕ} (S : StableIn b m) {ρ : Pairs} (X : ExposedIn b m ρ)
   -- so the matching is that of these places
   pub eliminated-is : eliminated ρ m ≡ matchingOf b (eliminate (market b) (cycleOf ρ) (vectorOf b m))
   eliminated-is =
-      let W = S .matching .formed in
-      let n = length-values (partners (market b) moves) 0 (people b) in
+      let n = length-values (partnerAt b moves) 0 (people b) in
       entries-same (eliminated ρ m) (matchingOf b moves) (long ∙ sym n)
       (λ i h.
       let u : i < people b = omega (arith, long) in
-      let (below, at) = new-place u in
-      sym (matching-at W moves-stable u ∙ (ap (manChoice b i) at ∙ choice-at W u below)))
+      sym (split (length ρ) (pairNumber ρ i) (entry-kept u) (entry-moved u)))
 
   -- which is stable
   pub eliminated-stable : StableIn b (eliminated ρ m)

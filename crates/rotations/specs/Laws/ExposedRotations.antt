@@ -13,16 +13,19 @@ use Rattle.stable_theory.specs.Rotations.Eliminate.{holds-pair}
 use Rattle.stable_theory.specs.Rotations.SameRotation.{same-sym, exposed-same}
 use Rattle.matchings.specs.BookMarket.{market, market-proper}
 use Rattle.matchings.specs.Matching.{manOf, vectorOf, MatchingIn}
-use Rattle.matchings.specs.Laws.StableVector.{man-of-of, matching-in}
+use Rattle.matchings.specs.Laws.Blocking.{man-of-of}
+use Rattle.matchings.specs.Laws.StableVector.{matching-in}
 use Rattle.rotations.specs.ByteRotation.{Pairs, pairAt, CycleIn, ExposedIn}
 use Rattle.rotations.specs.Laws.PairLists.{cycleOf, pairsOf, pair-again, pairs-same}
-use Rattle.rotations.specs.Laws.NextMentors.{next-theory, theory-next}
+use Rattle.rotations.specs.Laws.NextMentors.{willing-placed, next-theory, theory-next}
 
 module _ {b m : List ℕ} (A : MatchingIn b m) where
   module _ {ρ : Pairs} (C : CycleIn b m ρ) where
     -- each mentor of the cycle has the student of her pair
     hers : (k : ℕ) → k < length ρ → manOf (people b) m (pairAt ρ k .woman) ≡ pairAt ρ k .man
-    hers k h = ap (manOf (people b) m) (sym (C .pair k h)) ∙ man-of-of A (C .next k h .willing .man)
+    hers k h =
+        let c = C .next k h .willing in
+        ap (manOf (people b) m) (sym (C .pair k h)) ∙ man-of-of A (c .man) (willing-placed A c)
 
     -- of the following pair too
     hers-next : (k : ℕ) → k < length ρ → manOf (people b) m (pairAt ρ (suc k) .woman) ≡ pairAt ρ (suc k) .man

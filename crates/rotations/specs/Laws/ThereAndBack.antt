@@ -6,17 +6,16 @@ use mathlib.Core.Bool.{Bool, true, false}
 use mathlib.Core.List.{List}
 use native.Mathlib.Omega.{arith}
 use lib.ListN.{length}
-use lib.Dec.{eqb}
+use lib.Dec.{ltb, eqb}
 use borrow.Author.Tests.{eq-eqb, ne-eqb}
 use Rattle.laws.specs.Choice.{pick, same}
 use Rattle.laws.specs.Values.{length-values, values-same}
 use Rattle.format.specs.Verdict.{fine}
-use Rattle.format.specs.Format.{people, markIn}
+use Rattle.format.specs.Format.{people, nobody, markIn}
 use Rattle.format.specs.WellFormed.{WellFormed}
 use Rattle.format.specs.Laws.Rows.{mark-stored, marks-same}
 use Rattle.stable_theory.specs.Stable.Vector.{Stable}
 use Rattle.stable_theory.specs.Stable.Holding.{Same}
-use Rattle.stable_theory.specs.Matchings.Matching.{partners}
 use Rattle.stable_theory.specs.Least.Optimal.{proposer-optimal}
 use Rattle.stable_theory.specs.Rotations.Numbering.{rotation}
 use Rattle.stable_theory.specs.Rotations.Subset.{setOf}
@@ -26,8 +25,8 @@ use Rattle.stable_theory.specs.Rotations.Rebuild.{after-cong}
 use Rattle.stable_theory.specs.Rotations.ClosedSubset.{closed-agree}
 use Rattle.stable_theory.specs.Rotations.Demand2Theory.{theorem-1-matching, theorem-1-there, theorem-1-subset, theorem-1-back, closed-test}
 use Rattle.matchings.specs.BookMarket.{market, market-proper}
-use Rattle.matchings.specs.Matching.{vectorOf, checkMatching}
-use Rattle.matchings.specs.Extreme.{matchingOf}
+use Rattle.matchings.specs.Matching.{manLength, manChoice, vectorOf, checkMatching}
+use Rattle.matchings.specs.Extreme.{partnerAt, matchingOf}
 use Rattle.matchings.specs.Laws.StableCheck.{fine-stable}
 use Rattle.matchings.specs.Laws.StableVector.{fine-vector, matching-back, vector-fine, vector-back}
 use Rattle.rotations.specs.RotationList.{rotationCount}
@@ -35,10 +34,14 @@ use Rattle.rotations.specs.Sets.{member, closedSet, setVector, setMatchi
 use Rattle.rotations.specs.Laws.SetVerdict.{GoodMarks}
 use Rattle.stable_theory.specs.Rotations.Subset
 
+-- one place has one entry
+pub partner-agree : (b : List ℕ) (p q : ℕ → ℕ) {i : ℕ} → p i ≡ q i → partnerAt b p i ≡ partnerAt b q i
+partner-agree b p q {i} e = ap (λ (k : ℕ). pick (ltb k (manLength b i)) (manChoice b i k) nobody) e
+
 -- places that agree have one matching
 pub matching-agree : (b : List ℕ) {p q : ℕ → ℕ} → Same (market b) p q → matchingOf b p ≡ matchingOf b q
-unfolding partners market
-matching-agree b {p} {q} e = values-same (people b) (partners (market b) p) (partners (market b) q) (λ i u. rw (e i u))
+unfolding market
+matching-agree b {p} {q} e = values-same (people b) (partnerAt b p) (partnerAt b q) (λ i u. partner-agree b p q (e i u))
 
 -- the mark of a test, and the test of a mark
 bit-test : (t : Bool) → eqb (pick t 1 0) 1 ≡ t

@@ -1,7 +1,7 @@
 -- Sets of a book's rotations and matchings: what the code works out is what document 01 says. Assumes nothing.
 use Prim.Native.Nat.{ℕ, _≤_, _<_}
 use mathlib.Core.Path.{_≡_, sym, _∙_}
-use mathlib.Core.Bool.{Bool, true}
+use mathlib.Core.Bool.{Bool}
 use mathlib.Core.List.{List, _++_}
 use native.Mathlib.Omega.{arith}
 use lib.ListN.{length, take, drop}
@@ -18,15 +18,14 @@ use Rattle.stable_theory.specs.Stable.Vector.{Stable}
 use Rattle.stable_theory.specs.Stable.Holding.{Same}
 use Rattle.stable_theory.specs.Stable.Alike.{alike-sym, stable-alike}
 use Rattle.stable_theory.specs.Least.Optimal.{proposer-optimal, proposer-optimal-stable}
-use Rattle.stable_theory.specs.Matchings.Perfect.{stable-full}
 use Rattle.stable_theory.specs.Least.OptimalAlike.{proposer-optimal-alike}
 use Rattle.stable_theory.specs.Rotations.Numbering.{rotation}
 use Rattle.stable_theory.specs.Rotations.Subset.{vectorOf, setOf, prefix}
 use Rattle.stable_theory.specs.Rotations.SameRotation.{passed-agree}
 use Rattle.stable_theory.specs.Rotations.Demand2Theory.{theorem-1-matching, theorem-1-there, closed-exactly, closed-test}
 use Rattle.matchings.specs.declared.places.Places.{Places}
-use Rattle.matchings.specs.BookMarket.{market, market-proper, market-complete}
-use Rattle.extremes.specs.Laws.ExtremeBytes.{women-filled}
+use Rattle.matchings.specs.BookMarket.{market, market-proper}
+use Rattle.extremes.specs.Laws.ExtremeBytes.{places-writable, women-filled}
 use Rattle.rotation_numbering.specs.declared.numbering.Extent.{Extent}
 use Rattle.rotation_numbering.specs.Numbering.{NumberingOf}
 use Rattle.rotations.specs.RotationList.{rotationCount}
@@ -37,8 +36,7 @@ use Rattle.precedence.specs.ListRead.{pastNumber}
 use Rattle.stability.specs.Blocking.{OnLists}
 use Rattle.closed_subsets.specs.SetPlaces.{RanksOf, SetPlaces}
 use Rattle.closed_subsets.specs.PlaceTests.{ClosesIs}
-use Rattle.closed_subsets.specs.Laws.SetPlaces.{after-same, after-placed}
-use Rattle.closed_subsets.specs.Laws.StablePlaces.{women-writable}
+use Rattle.closed_subsets.specs.Laws.SetPlaces.{after-same, after-within}
 use Rattle.rotations.specs.Sets.{member, closedSet, setVector, setMatching}
 
 module _ {b : List ℕ} {r : Record} (R : Read b r) {numbers : List ℕ} {s : Extent} (N : NumberingOf r numbers s) where
@@ -63,24 +61,23 @@ module _ {b : List ℕ} {r : Record} (R : Read b r) {numbers : List ℕ} {s : Ex
         S .is ranks-of i u v
         ∙ rw marks (after-same (market b) (member set) (rotationCount b) (λ j h. book-number R N h) best i u)
 
-    -- which are on the lists
+    -- which are on the lists or at their ends
     pub set-on : OnLists (r .n) (r .mlists) men
     unfolding vectorOf market
     set-on =
-        let U = read-usable R in
-        let M = market-proper (R .formed) in
-        let placed = after-placed (market b) (member set) (rotationCount b) (prefix (market b) (rotation (market b)) (proposer-optimal (market b))) (λ j h. numbered-exposed R h)
-        (λ i u. stable-full M (market-complete (R .formed)) (proposer-optimal-stable M) u) in
+        let P = proposer-optimal-stable (market-proper (R .formed)) in
+        let within = after-within (market b) (member set) (rotationCount b) (prefix (market b) (rotation (market b)) (proposer-optimal (market b))) (λ j h. numbered-exposed R h)
+        (P .settled .within) in
         record {
-          long = omega (arith, S .long, U .few);
+          long = omega (arith, S .long, read-usable R .few);
           on = λ {i} u.
               let v : i < people b = omega (arith, R .tables .number) in
-              omega (arith, set-vector i v, placed i v, book-alike R .proposing .len u);
+              omega (arith, set-vector i v, within i v, book-alike R .proposing .len u);
         }
 
     -- so the women there can be written
     pub set-writable : {out : List ℕ} → r .n ≤ length out → MatchingWritable (r .n) (r .mlists) men out
-    set-writable h = women-writable R set-on h
+    set-writable h = places-writable (read-usable R) (set-on .long) h
 
     -- stable in the record's market and in the book's
     here-there : Stable (marketIn r) (vec men) → Stable (market b) (setVector b set)
@@ -106,14 +103,10 @@ module _ {b : List ℕ} {r : Record} (R : Read b r) {numbers : List ℕ} {s : Ex
         absurd (C .no e (there-here (theorem-1-matching M c)) (λ k h. set-past (omega arith) ∙ theorem-1-there M c k (omega arith))))
         (λ f. f ∙ sym e))
 
-    -- the places of a closed set are stable
-    closed-stable : closedSet b set ≡ true → Stable (marketIn r) (vec men)
-    closed-stable c = there-here (theorem-1-matching (market-proper (R .formed)) (closed-test (market-proper (R .formed)) (member set) .0 c))
-
-    -- so what is written there is the matching of the set
+    -- what is written there is the matching of the set
     pub set-filled :
-        closedSet b set ≡ true → {v : Verdict} → v ≡ fine → {n : ℕ} → n ≡ r .n → (out after : List ℕ) →
+        {v : Verdict} → v ≡ fine → {n : ℕ} → n ≡ r .n → (out after : List ℕ) →
         after ≡ womenAt n (r .mlists) (vec men) ++ drop n out → after ≡ filled v (people b) (setMatching b set) out
     unfolding setMatching market
-    set-filled c e k out after h =
-        women-filled (R .formed) (R .tables) (closed-stable c) (λ i u. set-vector i (omega (arith, R .tables .number))) e k out after h
+    set-filled e k out after h =
+        women-filled (R .formed) (R .tables) (λ i u. set-vector i (omega (arith, R .tables .number))) e k out after h

@@ -1,7 +1,6 @@
 -- `matching_with` meets its contract: rule 14 after the matching's, and then the set of the matching. `judged` is
 -- what the check answers for the book, `passed` says that nothing is refused before rule 14, `count` that the code's
 -- number of rotations is the book's. Assumes nothing.
-use Prim.Native.Nat.{ℕ}
 use mathlib.Core.Path.{_≡_, sym, _∙_, ap}
 use native.Mathlib.Omega.{arith}
 use lib.ListN.{length}

@@ -84,7 +84,7 @@ read : (c : tie.After-enum-told) → Read (start (loaded c) .args .book .now) (m
 read c = record-read (loaded c .load .ensures) (ap verdictOf (c .enum-told .given .1))
 
 -- which is that of a book in which nothing is refused
-fine-made : (c : tie.After-enum-told) → FromFine (made (loaded c))
+fine-made : (c : tie.After-enum-told) → FromFine (loaded c .load .result .partial) (made (loaded c))
 fine-made c = from-fine (loaded c .load .ensures) (ap verdictOf (c .enum-told .given .1))
 
 marks : (c : tie.After-bad-marks) → badMarks (book c) (set c) ≡ c .bad-marks .result
@@ -188,7 +188,7 @@ returns-5 c =
     let s = start (loaded (fine n)) .args in
     let R = read (fine n) in
     let f = set-fine (s .book .now) (s .set .now) (length (s .out .now)) (R .fine) (good (marked b)) (open-not e) (omega (arith, R .tables .number, w .if3 .left)) in
-    (ap verdictOf (fine n .enum-told .given .1) ∙ sym f, set-filled R (n .number-all .ensures) (b .man-optimal-places .ensures) (p .set-places .ensures) (long (marked b)) (open-not e) f refl (s .out .now) _ (d .write-matching .ensures))
+    (ap verdictOf (fine n .enum-told .given .1) ∙ sym f, set-filled R (n .number-all .ensures) (b .man-optimal-places .ensures) (p .set-places .ensures) (long (marked b)) f refl (s .out .now) _ (d .write-matching .ensures))
 
 pub set-with-spec : {M : Type 1} → statement M
 set-with-spec =
