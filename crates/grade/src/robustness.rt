@@ -78,6 +78,7 @@ fn grade_with(
     grade_in(
         answer,
         n,
+        instance.partial,
         mlists,
         mranks,
         wlists,
@@ -92,6 +93,7 @@ fn grade_with(
 fn grade_in<'a>(
     answer: Checked,
     n: usize,
+    partial: bool,
     mlists: &'a [u16],
     mranks: &'a [u16],
     wlists: &'a [u16],
@@ -102,11 +104,11 @@ fn grade_in<'a>(
 ) -> Graded
     ghost { Record }
     requires { λ R. ⌜ lent n mlists mranks wlists wranks ≡ R ⌝ }
-    requires { λ R. ⌜ FromBook answer R ⌝ }
+    requires { λ R. ⌜ FromBook answer partial R ⌝ }
     requires { λ _. ⌜ WeightsGiven (now matching) (now weights) (now wweights) ⌝ }
-    ensures { λ R r. ⌜ EachBook answer R (λ b. gradeOutcome r ≡ weightedGrade b (now₀ matching) (now₀ weights)) ⌝ }
+    ensures { λ R r. ⌜ EachBook answer partial R (λ b. gradeOutcome r ≡ weightedGrade b (now₀ matching) (now₀ weights)) ⌝ }
 {
-    let judged = judge(answer, n, mlists, mranks, wlists, wranks, matching);
+    let judged = judge(answer, n, partial, mlists, mranks, wlists, wranks, matching);
     let stable = judged.checked;
     let checked = check_weights(stable, n, weights);
     let Checked::Fine = checked else {

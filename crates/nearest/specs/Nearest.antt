@@ -27,7 +27,10 @@ pub record Given (R : Record) (men women : List ℕ) : Type 0 where
   pub by-women : Sound (byWomen R)
   pub stable : Stable (marketIn R) (vec men)
   pub mirror : Mirror (marketIn R) (vec men) (vec women)
-  pub placed : {i : ℕ} → i < R .n → vec men i < lenIn (R .n) (R .n) (R .mlists) i
+
+-- Man s is placed under p: his place is on his list
+abbrev pub Placed : Record → (ℕ → ℕ) → ℕ → Type 0
+Placed R p s = p s < lenIn (R .n) (R .n) (R .mlists) s
 
 -- The same of the places of a matching
 abbrev pub GivenIn : Record → Places → Type 0

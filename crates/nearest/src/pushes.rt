@@ -1,7 +1,8 @@
 // The nearest repair of a pair, over lent tables and the two vectors of a stable matching.
 //
-// `men` has the rank of each man's woman on his list and `women` the rank of each woman's man on hers; entries from n
-// on hold anything. `weights` has the weight of each man, and `wweights` that of each woman's man.
+// `men` has the rank of each man's woman on his list and `women` the rank of each woman's man on hers, or the list's
+// length for who is alone; entries from n on hold anything. `weights` has the weight of each man, and `wweights` that
+// of each woman's man.
 use crate::answer::Letter;
 use crate::answer::NO_REPAIR;
 use crate::answer::Nearest;
@@ -19,7 +20,7 @@ ghost use Rattle.tables.specs.Lists.{Tables, tables, market, Sound};
 ghost use Rattle.pushing.specs.Push.{Pushable, Weighed};
 ghost use Rattle.format.specs.Record.{Record, lent};
 ghost use Rattle.nearest.specs.Tried.{noRepair, Tries};
-ghost use Rattle.nearest.specs.Nearest.{Given, BothWeighed, ShowsFor};
+ghost use Rattle.nearest.specs.Nearest.{Given, Placed, BothWeighed, ShowsFor};
 
 // What a push leaves: how far the repair is that it found, and the two vectors.
 pub struct Vectors {
@@ -71,8 +72,8 @@ pub fn pushed<'a>(
     }
 }
 
-// The nearest repair of the pair of man m: up by a push of his woman on the other side, down by a push of him, which
-// gives up where it is no nearer; up where both are as near.
+// The nearest repair of the pair of man m, who is placed: up by a push of his woman on the other side, down by a push
+// of him, which gives up where it is no nearer; up where both are as near.
 pub fn nearest<'a>(
     n: usize,
     mlists: &'a [u16],
@@ -87,11 +88,11 @@ pub fn nearest<'a>(
 ) -> Nearest
     ghost { Record }
     requires { λ R. ⌜ lent n mlists mranks wlists wranks ≡ R ⌝ }
-    requires { λ R. ⌜ Given R men women × (m .0 < n) ⌝ }
+    requires { λ R. ⌜ Given R men women × (m .0 < n) × Placed R (vec men) (m .0) ⌝ }
     requires { λ R. ⌜ BothWeighed R (vec men) (now weights) (now wweights) ⌝ }
     ensures { λ R r. ⌜ ShowsFor R (vec₀ weights) (vec men) (m .0) r ⌝ }
 {
-    let s = book::wide(m.0);
+    let s = rows::wide(m.0);
     let w = list_at(mlists, n, s, wide(men[s]));
     let up = pushed(
         n,

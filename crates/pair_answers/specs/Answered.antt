@@ -21,7 +21,7 @@ letterByte (U v) = 85
 letterByte (D v) = 68
 letterByte F = 70
 
--- At index s the two lists have the letter and the distance of the answer for the pair of s
+-- At index s the two lists have the letter and the distance of the answer for the pair of s, F and 0 where he has none
 pub record AnswerAt (I : Market) (c p : ℕ → ℕ) (letters distances : List ℕ) (s : ℕ) : Type 0 where
   pub letter : vec letters s ≡ letterByte (answerOf I c p s)
   pub distance : vec distances s ≡ farOf I c p (answerOf I c p s)

@@ -23,7 +23,7 @@ pub struct Summary {
 
 // The letter and the distance of the answer for each pair, to the fronts of the two slices, the grade and the number of
 // rotations, where `weights` has the weight of each man and `wweights` that of each woman's man. One push up and one
-// down serve all men whose pairs have the same repair.
+// down serve all men whose pairs have the same repair. A man who is alone has no pair: the slices have F and 0 for him.
 pub fn answer_pairs<'a>(
     n: usize,
     mlists: &'a [u16],

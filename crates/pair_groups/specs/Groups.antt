@@ -14,7 +14,7 @@ use Rattle.pair_groups.specs.declared.groups.Groups.{Groups}
 -- The number of rotations of a record's market, and the groups of the pairs of the stable matching p
 pub record GroupsOf (R : Record) (p : ℕ → ℕ) (r : Groups) : Type 0 where
   pub all-rotations : r .rotations ≡ total (marketIn R)
-  pub downs : Grouped (R .n) (IsDown (marketIn R) p) (vec (r .down))
-  pub ups : Grouped (R .n) (IsUp (marketIn R) p) (vec (r .up))
+  pub downs : Grouped (marketIn R) p IsDown (vec (r .down))
+  pub ups : Grouped (marketIn R) p IsUp (vec (r .up))
   pub down-long : length (r .down) ≡ largest
   pub up-long : length (r .up) ≡ largest

@@ -1,7 +1,7 @@
 // How far the repairs up and down are, measured once for each group of men whose pairs have the same repair.
 //
-// `up` and `down` have who answers for each man, and n where there is no repair. `weights` has the weight of each man,
-// and `wweights` that of each woman's man.
+// `up` and `down` have who answers for each man, who is placed then, and n where there is no repair. `weights` has the
+// weight of each man, and `wweights` that of each woman's man.
 use format::Instance;
 use nearest::NO_REPAIR;
 use nearest::pushed;
@@ -47,6 +47,7 @@ fn measure_up<'a>(
     ghost { Record }
     requires { λ R. ⌜ lent n mlists mranks wlists wranks ≡ R ⌝ }
     requires { λ R. ⌜ Given R men women × BothWeighed R (vec men) (now weights) (now wweights) ⌝ }
+    requires { λ R. ⌜ Grouped (marketIn R) (vec men) IsUp (vec (now up)) ⌝ }
     requires { λ _. ⌜ (n ≤ length (now up)) × (n ≤ length (now above)) ⌝ }
     ensures { λ R _. ⌜ Measured (marketIn R) (vec₀ weights) (vec men) n (IsUp (marketIn R) (vec men)) (vec₀ up) (λ s. noRepair)
         (vec₁ above) ⌝ }
@@ -109,6 +110,7 @@ fn measure_down<'a>(
     ghost { Record }
     requires { λ R. ⌜ lent n mlists mranks wlists wranks ≡ R ⌝ }
     requires { λ R. ⌜ Given R men women × Weighed n (now weights) ⌝ }
+    requires { λ R. ⌜ Grouped (marketIn R) (vec men) IsDown (vec (now down)) ⌝ }
     requires { λ _. ⌜ (n ≤ length (now down)) × (n ≤ length (now bound)) × (n ≤ length (now below)) ⌝ }
     requires { λ _. ⌜ ((s : ℕ) → s < n → vec (now bound) s ≤ noRepair) ⌝ }
     ensures { λ R _. ⌜ Measured (marketIn R) (vec₀ weights) (vec men) n (IsDown (marketIn R) (vec men)) (vec₀ down) (vec₀ bound)
@@ -155,7 +157,8 @@ pub fn measure<'a>(
     ghost { Record }
     requires { λ R. ⌜ lent n mlists mranks wlists wranks ≡ R ⌝ }
     requires { λ R. ⌜ Given R men women × BothWeighed R (vec men) (now weights) (now wweights) ⌝ }
-    requires { λ R. ⌜ Grouped n (IsUp (marketIn R) (vec men)) (vec (now up)) ⌝ }
+    requires { λ R. ⌜ Grouped (marketIn R) (vec men) IsUp (vec (now up)) ⌝ }
+    requires { λ R. ⌜ Grouped (marketIn R) (vec men) IsDown (vec (now down)) ⌝ }
     requires { λ _. ⌜ Measurable n (now down) (now up) (now above) (now below) ⌝ }
     ensures { λ R _. ⌜ BothMeasured (marketIn R) (vec₀ weights) (vec men) n (vec₀ down) (vec₀ up) (vec₁ above) (vec₁ below) ⌝ }
 {

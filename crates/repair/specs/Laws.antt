@@ -1,3 +1,4 @@
--- From the nearest repair to the reply and the bytes. Assumes nothing.
+-- The partner of a man, and from the nearest repair to the reply and the bytes. Assumes nothing.
+pub mod Partner
 pub mod Returns
 pub mod Shown

@@ -1,3 +1,4 @@
--- The repair of a pair: Repaired has what contracts cite, Laws what only proofs cite. Assumes nothing.
+-- The repair of a pair: Partner and Repaired have what contracts cite, Laws what only proofs cite. Assumes nothing.
+pub mod Partner
 pub mod Repaired
 pub mod Laws

@@ -2,22 +2,25 @@
 //
 // `weights` has the weight of each man, and `wweights` that of each woman's man.
 use book::is_small;
-use book::pair_in;
-use book::refuse;
-use book::wide;
-use book::woman_of;
 use format::Checked;
 use format::Instance;
 use format::Pair;
+use format::Partner;
+use format::Woman;
 use nearest::nearest;
 use record::load;
 use repairs::Answer;
+use rows::pair_in;
+use rows::partner_of;
+use rows::refuse;
+use rows::wide;
 use stability::judge;
 use weights::check_weights;
 ghost use mathlib.Core.Path.{_≡_};
 ghost use Prim.Native.Nat.{_≤_};
 ghost use lib.ListN.{length};
 ghost use Rattle.laws.specs.Moment.{now₀, now₁};
+ghost use Rattle.format.specs.Format.{largest};
 ghost use Rattle.format.specs.Outcome.{after};
 ghost use Rattle.format.specs.Record.{Record, lent, LongTables};
 ghost use Rattle.format.specs.Verdict.{verdictOf};
@@ -25,6 +28,7 @@ ghost use Rattle.stability.specs.Judge.{FromBook};
 ghost use Rattle.repairs.specs.Repair.{fixed, repairOutcome, weightedReply, weightedMatching, weightedGains};
 ghost use Rattle.repairs.specs.Request.{checkPair};
 ghost use Rattle.weights.specs.Weights.{WeightsGiven};
+ghost use Rattle.repair.specs.Partner.{partnerIs};
 ghost use Rattle.repair.specs.Repaired.{Repairs};
 
 // The repair of the pair that the request names, student then mentor, or the first rule that is broken and where. A
@@ -115,6 +119,7 @@ fn repair_with(
     repair_in(
         answer,
         n,
+        instance.partial,
         mlists,
         mranks,
         wlists,
@@ -133,6 +138,7 @@ fn repair_with(
 fn repair_in<'a>(
     answer: Checked,
     n: usize,
+    partial: bool,
     mlists: &'a [u16],
     mranks: &'a [u16],
     wlists: &'a [u16],
@@ -146,12 +152,12 @@ fn repair_in<'a>(
 ) -> Answer
     ghost { Record }
     requires { λ R. ⌜ lent n mlists mranks wlists wranks ≡ R ⌝ }
-    requires { λ R. ⌜ FromBook answer R ⌝ }
+    requires { λ R. ⌜ FromBook answer partial R ⌝ }
     requires { λ _. ⌜ WeightsGiven (now matching) (now weights) (now wweights) ⌝ }
-    ensures { λ R r. ⌜ Repairs answer R (now₀ matching) (now₀ weights) (now₀ request) (now₀ out) (now₀ gains) r
+    ensures { λ R r. ⌜ Repairs answer partial R (now₀ matching) (now₀ weights) (now₀ request) (now₀ out) (now₀ gains) r
         (now₁ out) (now₁ gains) ⌝ }
 {
-    let judged = judge(answer, n, mlists, mranks, wlists, wranks, matching);
+    let judged = judge(answer, n, partial, mlists, mranks, wlists, wranks, matching);
     let stable = judged.checked;
     let checked = check_weights(stable, n, weights);
     let Checked::Fine = checked else {
@@ -196,9 +202,19 @@ fn refused(checked: Checked) -> Answer
     }
 }
 
+// Whether a partner is this woman: nobody is not.
+fn is_partner(partner: Partner, woman: Woman) -> bool
+    ensures { λ r. ⌜ r ≡ partnerIs partner (woman .0) ⌝ }
+{
+    match partner {
+        Partner::With(own) => own.0 == woman.0,
+        Partner::Alone => false,
+    }
+}
+
 // Rules 11, 12 and 14 of a pair, for a matching of n men.
 fn check_pair(n: usize, matching: &[u8], pair: Pair, room: usize, gains_room: usize) -> Checked
-    requires { ⌜ n ≤ length (now matching) ⌝ }
+    requires { ⌜ (n ≤ largest) × (n ≤ length (now matching)) ⌝ }
     ensures { λ r. ⌜ verdictOf r ≡ checkPair n (now₀ matching) (pair .man .0) (pair .woman .0) room «gains_room» ⌝ }
 {
     let man = pair.man;
@@ -209,8 +225,7 @@ fn check_pair(n: usize, matching: &[u8], pair: Pair, room: usize, gains_room: us
     if n <= wide(woman.0) {
         return refuse(11, 0);
     }
-    let partner = woman_of(matching, man);
-    if partner.0 != woman.0 {
+    if !is_partner(partner_of(matching, man), woman) {
         return refuse(12, 0);
     }
     if room < n {

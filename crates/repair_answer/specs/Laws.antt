@@ -1,3 +1,2 @@
--- Laws of what is written, and of those who are moved. Assumes nothing.
-pub mod Small
+-- Laws of those who are moved. Assumes nothing.
 pub mod Moved

@@ -30,7 +30,8 @@ fn write_repair(
     gains: &mut [i8],
 ) -> Repair
     requires { ⌜ MatchingWritable n (now mlists) (now repaired) (now out) ⌝ }
-    requires { ⌜ Small n (now men) × Weighed n (now weights) × (n ≤ length (now gains)) ⌝ }
+    requires { ⌜ Small n (now men) × Small n (now repaired) ⌝ }
+    requires { ⌜ Weighed n (now weights) × (n ≤ length (now gains)) ⌝ }
     ensures distance { λ r. ⌜ r .distance ≡ movedAt n (vec₀ weights) (vec₀ men) (vec₀ repaired) ⌝ }
     ensures bytes { λ _. ⌜ now₁ out ≡ womenAt n (now₀ mlists) (vec₀ repaired) ++ drop n (now₀ out) ⌝ }
     ensures places { λ _. ⌜ now₁ gains ≡ gainsAt n (vec₀ men) (vec₀ repaired) ++ drop n (now₀ gains) ⌝ }
@@ -54,7 +55,8 @@ pub fn answer(
     gains: &mut [i8],
 ) -> Answer
     requires { ⌜ MatchingWritable n (now mlists) (found .men) (now out) ⌝ }
-    requires { ⌜ Small n men × Weighed n (now weights) × (n ≤ length (now gains)) ⌝ }
+    requires { ⌜ Small n men × Small n (found .men) ⌝ }
+    requires { ⌜ Weighed n (now weights) × (n ≤ length (now gains)) ⌝ }
     ensures reply { λ r. ⌜ repairOutcome r ≡ gives (shownAnswer (found .letter)
         (movedAt n (vec₀ weights) (vec men) (vec (found .men)))) ⌝ }
     ensures bytes { λ _. ⌜ now₁ out ≡ shownIn (found .letter) n (womenAt n (now₀ mlists) (vec (found .men))) (now₀ out) ⌝ }

@@ -1,12 +1,20 @@
--- Demand 1 of a repair: a refusal leaves the lent result buffers unchanged. b is the book, m the given matching, q the
--- request, k the weights. Assumes nothing.
-use Prim.Native.Nat.{ℕ}
-use mathlib.Core.Path.{_≡_, sym}
+-- Demand 1 of a repair: a refusal leaves the lent result buffers unchanged; and the refusals of requests that name
+-- nobody, or a student without a mentor. b is the book, m the given matching, q the request, k the weights. Assumes
+-- nothing.
+use Prim.Native.Nat.{ℕ, _<_}
+use mathlib.Core.Path.{_≡_, sym, _∙_}
 use mathlib.Core.List.{List}
+use native.Mathlib.Omega.{arith}
 use lib.ListN.{length}
 use lib.IntN.{ℤ}
-use Rattle.format.specs.Verdict.{refused}
+use Rattle.format.specs.Verdict.{fine, refused, broken}
+use Rattle.format.specs.Laws.Verdict.{goes-on}
+use Rattle.format.specs.Format.{people, nobody, pairRow}
 use Rattle.format.specs.Laws.Outcome.{filled-refused}
+use Rattle.matchings.specs.Matching.{checkMatching, womanOf}
+use Rattle.matchings.specs.Laws.Entries.{nobody-most}
+use Rattle.matchings.specs.Laws.StableCheck.{fine-stable}
+use Rattle.repairs.specs.Laws.Request.{pair-11, pair-12}
 use Rattle.repairs.specs.Request.{checkRequest, checkWeightedRequest}
 use Rattle.repairs.specs.Repair.{repairMatching, repairGains, weightedMatching, weightedGains}
 
@@ -23,3 +31,17 @@ pub weighted-refused-unchanged :
     checkWeightedRequest b m k q (length out) (length gains) ≡ refused number place second →
     (weightedMatching b m k q out gains ≡ out) × (weightedGains b m k q out gains ≡ gains)
 weighted-refused-unchanged b m k q out gains e = (sym (filled-refused e _ _ out), sym (filled-refused e _ _ gains))
+
+-- A student and a mentor asked for together, in a stable matching m
+module _ (b m : List ℕ) (stable : checkMatching b m ≡ fine) (s : ℕ) (room gainsRoom : ℕ) where
+  -- nobody is no mentor: the entry of a student without a mentor, asked for as a mentor, gets 11
+  pub nobody-asked : checkRequest b m (pairRow s nobody) room gainsRoom ≡ broken 11 0
+  nobody-asked =
+      goes-on (checkMatching b m) _ stable ∙ pair-11 m s nobody room gainsRoom (nobody-most (fine-stable b m .0 stable .matching .formed))
+
+  -- a student without a mentor is together with no mentor: he gets 12
+  pub alone-asked :
+      (w : ℕ) → s < people b → w < people b → womanOf m s ≡ nobody → checkRequest b m (pairRow s w) room gainsRoom ≡ broken 12 0
+  alone-asked w u v e =
+      let h = nobody-most (fine-stable b m .0 stable .matching .formed) in
+      goes-on (checkMatching b m) _ stable ∙ pair-12 m s w room gainsRoom u v (λ q. omega arith)

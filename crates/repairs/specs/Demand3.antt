@@ -1,7 +1,8 @@
--- Demand 3, whole, of the definitions that the contracts cite, and that document 01's words leave no choice. It is the
--- demand of WeightedDemand3 where every student weighs 1: each proof cites the same law at these weights. The words are
--- those of Promise.antt. Assumes nothing.
-use Prim.Native.Nat.{ℕ, _≤_, _<_}
+-- Demand 3, whole, of the definitions that the contracts cite, over every well formed book of either edition, every
+-- stable matching and every pair of it; and that document 01's words leave no choice. It is the demand of
+-- WeightedDemand3 where every student weighs 1: each proof cites the same law at these weights. The words are those of
+-- Promise.antt. Assumes nothing.
+use Prim.Native.Nat.{ℕ, _≤_}
 use mathlib.Core.Path.{_≡_}
 use mathlib.Core.List.{List}
 use mathlib.Core.Logic.{_↔_}
@@ -13,7 +14,7 @@ use Rattle.format.specs.Format.{people}
 use Rattle.matchings.specs.Matching.{checkMatching}
 use Rattle.repairs.specs.Repair.{RepairAnswer, fixed, repairReply, repairMatching, repairGains}
 use Rattle.repairs.specs.Grade.{gradeReply}
-use Rattle.repairs.specs.Promise.{pairOf, written, InEvery, RepairUp, RepairDown, Takes, Lightest, Gained, nonzeroCount, Covers, AnswerIs, ReportedDistance, LargestLessOwn}
+use Rattle.repairs.specs.Promise.{PairIn, pairOf, written, InEvery, RepairUp, RepairDown, Takes, Lightest, Gained, nonzeroCount, Covers, AnswerIs, ReportedDistance, LargestLessOwn}
 use Rattle.repairs.specs.Laws.Request.{request-fine}
 use Rattle.repairs.specs.Laws.Demand3.{fixed-iff, takes, gains-are, answered, distance-is, reply-given}
 use Rattle.repairs.specs.Laws.OneRepair.{one-up, one-down, one-taken, only-one}
@@ -23,10 +24,10 @@ use Rattle.repairs.specs.Laws.GradeSentence.{grade-largest}
 -- A book that is well formed with a matching that is stable in it, a pair of it asked for alone, and lent buffers that
 -- are long enough
 module _ (b m : List ℕ) (s : ℕ) (out : List ℕ) (gains : List ℤ)
-    (stable : checkMatching b m ≡ fine) (student : s < people b) (room : people b ≤ length out) (gains-room : people b ≤ length gains) where
+    (stable : checkMatching b m ≡ fine) (pair : PairIn b m s) (room : people b ≤ length out) (gains-room : people b ≤ length gains) where
   -- the answer is 'fixed' exactly when every stable matching of that book holds the pair
   pub fixed-exactly : repairReply b m (pairOf m s) out gains ≡ gives fixed ↔ InEvery b m s
-  fixed-exactly = fixed-iff b (λ i. 1) m s stable student (request-fine b m s stable student room gains-room)
+  fixed-exactly = fixed-iff b (λ i. 1) m s stable pair (request-fine b m s stable pair room gains-room)
 
   -- otherwise it is the repair that document 01 takes, with the number of students that it moves: a stable matching
   -- without the pair; and every other stable matching without the pair moves at least as many students
@@ -34,34 +35,34 @@ module _ (b m : List ℕ) (s : ℕ) (out : List ℕ) (gains : List ℤ)
       (InEvery b m s → ⊥) →
       Takes b (λ i. 1) m s (written b (repairMatching b m (pairOf m s) out gains)) (repairReply b m (pairOf m s) out gains)
       × Lightest b (λ i. 1) m s (written b (repairMatching b m (pairOf m s) out gains))
-  repair-taken = takes b (λ i. 1) m s stable student (request-fine b m s stable student room gains-room) out
+  repair-taken = takes b (λ i. 1) m s stable pair (request-fine b m s stable pair room gains-room) out
 
   -- and the places gained are written: 0 exactly for unmoved students
   pub places-gained :
       (InEvery b m s → ⊥) → Gained b m (written b (repairMatching b m (pairOf m s) out gains)) (repairGains b m (pairOf m s) out gains)
-  places-gained = gains-are b (λ i. 1) m s stable student (request-fine b m s stable student room gains-room) out gains
+  places-gained = gains-are b (λ i. 1) m s stable pair (request-fine b m s stable pair room gains-room) out gains
 
   -- the number of students moved that is reported is the number of gains that are not 0
   pub moved-counted :
       (InEvery b m s → ⊥) →
       ReportedDistance (people b) (repairReply b m (pairOf m s)) (nonzeroCount (people b) (repairGains b m (pairOf m s) out gains))
   moved-counted =
-      distance-is b (λ i. 1) m s stable student (request-fine b m s stable student room gains-room)
-      (λ o g h k. request-fine b m s stable student h k) gains
+      distance-is b (λ i. 1) m s stable pair (request-fine b m s stable pair room gains-room)
+      (λ o g h k. request-fine b m s stable pair h k) gains
 
   -- nothing else meets the demand: a reply x and a matching r that do are these
   pub nothing-else :
       (r : List ℕ) (x : Outcome RepairAnswer) → (x ≡ gives fixed ↔ InEvery b m s) → ((InEvery b m s → ⊥) → Takes b (λ i. 1) m s r x) →
       (x ≡ repairReply b m (pairOf m s) out gains)
       × ((InEvery b m s → ⊥) → r ≡ written b (repairMatching b m (pairOf m s) out gains))
-  nothing-else = only-one b (λ i. 1) m s stable student (request-fine b m s stable student room gains-room) out
+  nothing-else = only-one b (λ i. 1) m s stable pair (request-fine b m s stable pair room gains-room) out
 
   -- the answer is the same for all buffers that are long enough, whatever they hold
   pub answer-same :
       (a : RepairAnswer) × (repairReply b m (pairOf m s) out gains ≡ gives a) × AnswerIs (people b) (repairReply b m (pairOf m s)) a
   answer-same =
-      answered b (λ i. 1) m s stable student (request-fine b m s stable student room gains-room)
-      (λ o g h k. request-fine b m s stable student h k)
+      answered b (λ i. 1) m s stable pair (request-fine b m s stable pair room gains-room)
+      (λ o g h k. request-fine b m s stable pair h k)
 
 -- Document 01's words leave no choice of bytes: there is one repair up at most, and one repair down, and one that is
 -- taken, with one reply, whatever the weights
@@ -86,7 +87,7 @@ grade-exactly b m stable = grade-is b (λ i. 1) m stable stable
 -- It is 0 if all are fixed
 pub grade-sentence :
     (b m : List ℕ) → checkMatching b m ≡ fine →
-    (g : ℕ) × (gradeReply b m ≡ gives g) × LargestLessOwn (people b) (λ i. 1) (λ s. repairReply b m (pairOf m s)) g
+    (g : ℕ) × (gradeReply b m ≡ gives g) × LargestLessOwn b (λ i. 1) m (λ s. repairReply b m (pairOf m s)) g
 grade-sentence b m stable =
     grade-largest b (λ i. 1) m stable stable (λ s o g. repairReply b m (pairOf m s) o g)
     (λ s u o g h k. reply-given b (λ i. 1) m s stable u (request-fine b m s stable u h k))

@@ -1,5 +1,6 @@
--- The words of demand 3: b is a book, m and k are matchings of it, `womanOf m i` is the mentor of student i in m, c i
--- is the weight of student i, and s is the asking student. A matching is stable where its check refuses nothing.
+-- The words of demand 3: b is a book of either edition, m and k are matchings of it, `womanOf m i` is the mentor of
+-- student i in m, or nobody, c i is the weight of student i, and s is the asking student. A matching is stable where
+-- its check refuses nothing. Where lists may not be short every student is in a pair (matchings/Demand2.nobody-alone).
 -- Assumes nothing.
 use Prim.Native.Nat.{ℕ, _-_, _≤_, _<_}
 use mathlib.Core.Path.{_≡_}
@@ -14,10 +15,15 @@ use Rattle.laws.specs.Sum.{sum, count}
 use Rattle.laws.specs.Difference.{less}
 use Rattle.format.specs.Verdict.{fine}
 use Rattle.format.specs.Outcome.{Outcome, gives}
-use Rattle.format.specs.Format.{largest, people, pairRow}
+use Rattle.format.specs.Format.{largest, people, nobody, pairRow}
 use Rattle.matchings.specs.Matching.{manRank, checkMatching, womanOf}
 use Rattle.repairs.specs.Weights.{movedWeight}
 use Rattle.repairs.specs.Repair.{RepairAnswer, up, down, fixed}
+
+-- Student s and his mentor are a pair of m: a student without a mentor is in none
+pub record PairIn (b m : List ℕ) (s : ℕ) : Type 0 where
+  pub student : s < people b
+  pub mentor : womanOf m s < people b
 
 -- The request for the pair of student s of m
 abbrev pub pairOf : List ℕ → ℕ → List ℕ
@@ -36,7 +42,8 @@ pub record Without (b m : List ℕ) (s : ℕ) (k : List ℕ) : Type 0 where
   pub stable : checkMatching b k ≡ fine
   pub without : womanOf k s ≡ womanOf m s → ⊥
 
--- Each student's place in k stands in the relation R to his place in m
+-- Each student's place in k stands in the relation R to his place in m; that of a student without a mentor is the end
+-- of his list
 abbrev pub Each : (ℕ → ℕ → Type 0) → List ℕ → List ℕ → List ℕ → Type 0
 Each R b k m = (i : ℕ) → i < people b → R (manRank b i (womanOf k i)) (manRank b i (womanOf m i))
 
@@ -75,12 +82,13 @@ pub data Takes (b : List ℕ) (c : ℕ → ℕ) (m : List ℕ) (s : ℕ) (r : Li
 abbrev pub Lightest : List ℕ → (ℕ → ℕ) → List ℕ → ℕ → List ℕ → Type 0
 Lightest b c m s r = (k : List ℕ) → Without b m s k → movedWeight (people b) c m r ≤ movedWeight (people b) c m k
 
--- The entries are the places gained by each student from m to r, old place less new: 0 exactly where he is unmoved, and
--- at most one less than the largest n, up or down
+-- The entries are the places gained by each student from m to r, old place less new: 0 exactly where he is unmoved, at
+-- most one less than the largest n, up or down, and 0 for a student without a mentor
 pub record Gained (b m r : List ℕ) (gains : List ℤ) : Type 0 where
   pub is : (i : ℕ) → i < people b → getD gains i (pos 0) ≡ less (manRank b i (womanOf m i)) (manRank b i (womanOf r i))
   pub zero : (i : ℕ) → i < people b → getD gains i (pos 0) ≡ pos 0 ↔ womanOf r i ≡ womanOf m i
   pub small : (i : ℕ) → i < people b → natAbs (getD gains i (pos 0)) ≤ largest - 1
+  pub alone : (i : ℕ) → i < people b → womanOf m i ≡ nobody → getD gains i (pos 0) ≡ pos 0
 
 -- The gain of student i is not 0
 abbrev pub notZero : List ℤ → ℕ → Bool
@@ -102,7 +110,7 @@ movedBesides n c m k s = sum n (λ i. pick (both (not (eqb i s)) (not (eqb (woma
 -- weigh at most g
 pub record Covers (b : List ℕ) (c : ℕ → ℕ) (m : List ℕ) (g : ℕ) : Type 0 where
   pub covers :
-      (s : ℕ) → s < people b → (InEvery b m s → ⊥) → (k : List ℕ) × Without b m s k × (movedBesides (people b) c m k s ≤ g)
+      (s : ℕ) → PairIn b m s → (InEvery b m s → ⊥) → (k : List ℕ) × Without b m s k × (movedBesides (people b) c m k s ≤ g)
 
 -- A reply, which depends on the two lent buffers, gives the answer a, whatever they hold, where each has n entries
 abbrev pub AnswerIs : ℕ → (List ℕ → List ℤ → Outcome RepairAnswer) → RepairAnswer → Type 0
@@ -114,8 +122,9 @@ pub data ReportedDistance (n : ℕ) (reply : List ℕ → List ℤ → Outcome R
   reported-down : AnswerIs n reply (down d) → ReportedDistance n reply d
 
 -- `replies s` is the reply for the pair of student s. g is the largest distance of an answer, less the asking student's
--- own weight, over the pairs that are not fixed. It is 0 if all are fixed
-pub data LargestLessOwn (n : ℕ) (c : ℕ → ℕ) (replies : ℕ → List ℕ → List ℤ → Outcome RepairAnswer) (g : ℕ) : Type 0 where
-  largest-less-own : {s d : ℕ} → s < n → ReportedDistance n (replies s) d →
-      ((t e : ℕ) → t < n → ReportedDistance n (replies t) e → e - c t ≤ d - c s) → g ≡ d - c s → LargestLessOwn n c replies g
-  all-fixed : ((s : ℕ) → s < n → AnswerIs n (replies s) fixed) → g ≡ 0 → LargestLessOwn n c replies g
+-- own weight, over the pairs of m that are not fixed. It is 0 if all are fixed
+pub data LargestLessOwn (b : List ℕ) (c : ℕ → ℕ) (m : List ℕ) (replies : ℕ → List ℕ → List ℤ → Outcome RepairAnswer) (g : ℕ) : Type 0 where
+  largest-less-own : {s d : ℕ} → PairIn b m s → ReportedDistance (people b) (replies s) d →
+      ((t e : ℕ) → PairIn b m t → ReportedDistance (people b) (replies t) e → e - c t ≤ d - c s) → g ≡ d - c s →
+      LargestLessOwn b c m replies g
+  all-fixed : ((s : ℕ) → PairIn b m s → AnswerIs (people b) (replies s) fixed) → g ≡ 0 → LargestLessOwn b c m replies g

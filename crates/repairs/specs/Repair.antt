@@ -18,11 +18,13 @@ use Rattle.repairs.specs.declared.answer.Answer.the-variants.{Up, Down, 
 use Rattle.repairs.specs.Weights.{weightOf, movedWeight}
 use Rattle.repairs.specs.Request.{askingMan, checkRequest, checkWeightedRequest}
 
--- Each student's places gained from m to r: the place of the old mentor on his list less that of the new one
+-- Each student's places gained from m to r: the place of the old mentor on his list less that of the new one. A student
+-- without a mentor has none in either, and gains 0
 abbrev pub gainsOf : List ℕ → List ℕ → List ℕ → List ℤ
 gainsOf b m r = values (λ i. less (manRank b i (womanOf m i)) (manRank b i (womanOf r i))) 0 (people b)
 
--- The answer for the pair of student s: repair up or repair down, the nearer, up at equal distance; or fixed
+-- The answer for the pair of student s: repair up or repair down, the nearer, up at equal distance; or fixed. A student
+-- without a mentor has no pair, and `F` stands for that
 abbrev pub answerFor : List ℕ → (ℕ → ℕ) → List ℕ → ℕ → Answer
 answerFor b c m s = answerOf (market b) c (vectorOf b m) s
 

@@ -1,5 +1,5 @@
--- The check of a request for a repair: rules 8 to 10 on the matching, then 13, 11, 12 on the request, then 14 on the
--- two result buffers; with weights 17 after 10. A request is a row of two entries, student then mentor. Assumes
+-- The check of a request for a repair: rules 8, 9, 19 and 10 on the matching, then 13, 11, 12 on the request, then 14
+-- on the two result buffers; with weights 17 after 10. A request is a row of two entries, student then mentor. Assumes
 -- nothing.
 use Prim.Native.Nat.{ℕ}
 use mathlib.Core.List.{List}

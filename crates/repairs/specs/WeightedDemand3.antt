@@ -1,7 +1,8 @@
 -- Demand 3 with weights, whole: the total weight of the students moved in place of their number, over every well
--- formed book, every stable matching, every pair and every table of n weights. k has the weights, byte i that of
--- student i. The words are those of Promise.antt, where no choice is left (Demand3.one-repair-taken). Assumes nothing.
-use Prim.Native.Nat.{ℕ, _≤_, _<_}
+-- formed book of either edition, every stable matching, every pair of it and every table of n weights. k has the
+-- weights, byte i that of student i. The words are those of Promise.antt, where no choice is left
+-- (Demand3.one-repair-taken). Assumes nothing.
+use Prim.Native.Nat.{ℕ, _≤_}
 use mathlib.Core.Path.{_≡_}
 use mathlib.Core.List.{List}
 use mathlib.Core.Logic.{_↔_}
@@ -14,7 +15,7 @@ use Rattle.matchings.specs.Matching.{checkMatching}
 use Rattle.repairs.specs.Weights.{weightOf}
 use Rattle.repairs.specs.Repair.{RepairAnswer, fixed, repairReply, repairMatching, repairGains, weightedReply, weightedMatching, weightedGains}
 use Rattle.repairs.specs.Grade.{gradeReply, weightedGrade}
-use Rattle.repairs.specs.Promise.{pairOf, written, InEvery, Takes, Lightest, Gained, nonzeroWeight, Covers, AnswerIs, ReportedDistance, LargestLessOwn}
+use Rattle.repairs.specs.Promise.{PairIn, pairOf, written, InEvery, Takes, Lightest, Gained, nonzeroWeight, Covers, AnswerIs, ReportedDistance, LargestLessOwn}
 use Rattle.repairs.specs.Laws.Request.{weighed-fine, weighted-fine}
 use Rattle.repairs.specs.Laws.Demand3.{fixed-iff, takes, gains-are, answered, distance-is, reply-given}
 use Rattle.repairs.specs.Laws.OneRepair.{only-one}
@@ -25,10 +26,10 @@ use Rattle.repairs.specs.Laws.UnitWeights.{UnitWeights, unit-ones, unit-
 -- A book that is well formed with a matching that is stable in it, a byte for each student, a pair asked for alone, and
 -- lent buffers that are long enough
 module _ (b m k : List ℕ) (s : ℕ) (out : List ℕ) (gains : List ℤ)
-    (stable : checkMatching b m ≡ fine) (all : length k ≡ people b) (student : s < people b) (room : people b ≤ length out) (gains-room : people b ≤ length gains) where
+    (stable : checkMatching b m ≡ fine) (all : length k ≡ people b) (pair : PairIn b m s) (room : people b ≤ length out) (gains-room : people b ≤ length gains) where
   -- the answer is 'fixed' exactly when every stable matching of that book holds the pair
   pub fixed-exactly : weightedReply b m k (pairOf m s) out gains ≡ gives fixed ↔ InEvery b m s
-  fixed-exactly = fixed-iff b (weightOf k) m s stable student (weighted-fine b m k s stable all student room gains-room)
+  fixed-exactly = fixed-iff b (weightOf k) m s stable pair (weighted-fine b m k s stable all pair room gains-room)
 
   -- otherwise it is one of document 01's two repairs, a stable matching without the pair, that which weighs less, up
   -- when equal, with its total; and every stable matching without the pair has moved students that weigh at least as
@@ -37,12 +38,12 @@ module _ (b m k : List ℕ) (s : ℕ) (out : List ℕ) (gains : List ℤ)
       (InEvery b m s → ⊥) →
       Takes b (weightOf k) m s (written b (weightedMatching b m k (pairOf m s) out gains)) (weightedReply b m k (pairOf m s) out gains)
       × Lightest b (weightOf k) m s (written b (weightedMatching b m k (pairOf m s) out gains))
-  repair-taken = takes b (weightOf k) m s stable student (weighted-fine b m k s stable all student room gains-room) out
+  repair-taken = takes b (weightOf k) m s stable pair (weighted-fine b m k s stable all pair room gains-room) out
 
   -- and the places gained are written: 0 exactly for unmoved students
   pub places-gained :
       (InEvery b m s → ⊥) → Gained b m (written b (weightedMatching b m k (pairOf m s) out gains)) (weightedGains b m k (pairOf m s) out gains)
-  places-gained = gains-are b (weightOf k) m s stable student (weighted-fine b m k s stable all student room gains-room) out gains
+  places-gained = gains-are b (weightOf k) m s stable pair (weighted-fine b m k s stable all pair room gains-room) out gains
 
   -- the total that is reported is that of the students whose gains are not 0
   pub moved-weighed :
@@ -50,22 +51,22 @@ module _ (b m k : List ℕ) (s : ℕ) (out : List ℕ) (gains : List ℤ)
       ReportedDistance (people b) (weightedReply b m k (pairOf m s))
       (nonzeroWeight (people b) (weightOf k) (weightedGains b m k (pairOf m s) out gains))
   moved-weighed =
-      distance-is b (weightOf k) m s stable student (weighted-fine b m k s stable all student room gains-room)
-      (λ o g h l. weighted-fine b m k s stable all student h l) gains
+      distance-is b (weightOf k) m s stable pair (weighted-fine b m k s stable all pair room gains-room)
+      (λ o g h l. weighted-fine b m k s stable all pair h l) gains
 
   -- nothing else meets the demand: a reply x and a matching r that do are these
   pub nothing-else :
       (r : List ℕ) (x : Outcome RepairAnswer) → (x ≡ gives fixed ↔ InEvery b m s) → ((InEvery b m s → ⊥) → Takes b (weightOf k) m s r x) →
       (x ≡ weightedReply b m k (pairOf m s) out gains)
       × ((InEvery b m s → ⊥) → r ≡ written b (weightedMatching b m k (pairOf m s) out gains))
-  nothing-else = only-one b (weightOf k) m s stable student (weighted-fine b m k s stable all student room gains-room) out
+  nothing-else = only-one b (weightOf k) m s stable pair (weighted-fine b m k s stable all pair room gains-room) out
 
   -- the answer is the same for all buffers that are long enough, whatever they hold
   pub answer-same :
       (a : RepairAnswer) × (weightedReply b m k (pairOf m s) out gains ≡ gives a) × AnswerIs (people b) (weightedReply b m k (pairOf m s)) a
   answer-same =
-      answered b (weightOf k) m s stable student (weighted-fine b m k s stable all student room gains-room)
-      (λ o g h l. weighted-fine b m k s stable all student h l)
+      answered b (weightOf k) m s stable pair (weighted-fine b m k s stable all pair room gains-room)
+      (λ o g h l. weighted-fine b m k s stable all pair h l)
 
 -- The grade is the least number such that, for each pair that is not fixed, some stable matching without it has moved
 -- students, besides the asking one, that weigh at most that
@@ -78,7 +79,7 @@ grade-exactly b m k stable all = grade-is b (weightOf k) m stable (weighed-fine 
 -- largest of these. It is 0 if all are fixed
 pub grade-sentence :
     (b m k : List ℕ) → checkMatching b m ≡ fine → length k ≡ people b →
-    (g : ℕ) × (weightedGrade b m k ≡ gives g) × LargestLessOwn (people b) (weightOf k) (λ s. weightedReply b m k (pairOf m s)) g
+    (g : ℕ) × (weightedGrade b m k ≡ gives g) × LargestLessOwn b (weightOf k) m (λ s. weightedReply b m k (pairOf m s)) g
 grade-sentence b m k stable all =
     grade-largest b (weightOf k) m stable (weighed-fine b m k stable all) (λ s o g. weightedReply b m k (pairOf m s) o g)
     (λ s u o g h l. reply-given b (weightOf k) m s stable u (weighted-fine b m k s stable all u h l))

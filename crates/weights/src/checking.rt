@@ -1,9 +1,9 @@
 // Rule 17, and how many weights stand for the students of a book where each counts 1.
 use crate::reading::least;
 use book::people_in;
-use book::refuse;
 use format::Checked;
 use format::Instance;
+use rows::refuse;
 ghost use mathlib.Core.Path.{_≡_};
 ghost use Prim.Native.Nat.{min};
 ghost use Rattle.laws.specs.Moment.{now₀};

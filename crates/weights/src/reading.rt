@@ -1,9 +1,10 @@
 // The weights of the men read from bytes, one byte a man, and of each woman that of the man whom a matching gives her.
-use book::next_man;
-use book::wide;
-use book::woman_of;
 use format::Instance;
 use format::Man;
+use format::Partner;
+use rows::next_man;
+use rows::partner_of;
+use rows::wide;
 ghost use mathlib.Core.Path.{_≡_};
 ghost use Prim.Native.Nat.{_+_, _≤_, _<_, min};
 ghost use lib.ListN.{length, take};
@@ -61,10 +62,12 @@ fn weigh_women(
     let mut man = Man(0);
     while wide(man.0) < n {
         let i = wide(man.0);
-        let woman = woman_of(matching, man);
-        let w = wide(woman.0);
-        if w < Instance::LARGEST {
-            women[w] = men[i];
+        let partner = partner_of(matching, man);
+        if let Partner::With(woman) = partner {
+            let w = wide(woman.0);
+            if w < Instance::LARGEST {
+                women[w] = men[i];
+            }
         }
         man = next_man(man);
     }

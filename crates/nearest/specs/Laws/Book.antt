@@ -7,20 +7,17 @@ use native.Mathlib.Omega.{arith}
 use lib.ListN.{length}
 use Rattle.laws.specs.Maximum.{maximum}
 use Rattle.laws.specs.Values.{vec}
-use Rattle.tables.specs.Lists.{lenIn}
 use Rattle.format.specs.Verdict.{Verdict, fine}
 use Rattle.format.specs.Format.{people}
 use Rattle.format.specs.WellFormed.{WellFormed, fine-well-formed}
 use Rattle.format.specs.Record.{Record, RecordIs, numberIf}
 use Rattle.stable_theory.specs.Stable.Market.{exchange}
 use Rattle.stable_theory.specs.Stable.Vector.{Stable}
-use Rattle.stable_theory.specs.Stable.Holding.{Same, hold-at}
+use Rattle.stable_theory.specs.Stable.Holding.{Same}
 use Rattle.stable_theory.specs.Stable.Holder.{mirror}
 use Rattle.stable_theory.specs.Stable.Mirror.{mirror-of}
 use Rattle.stable_theory.specs.Stable.Alike.{Alike, alike-sym, alike-exchange, same-alike, stable-alike, mirror-alike}
-use Rattle.stable_theory.specs.Matchings.Perfect.{stable-full}
 use Rattle.stable_theory.specs.Repairs.Answer.{answerOf, SameAnswer}
-use Rattle.stable_theory.specs.Repairs.AnswerAlike.{answer-alike}
 use Rattle.matchings.specs.declared.places.Judged.{Judged}
 use Rattle.matchings.specs.BookMarket.{market, market-proper}
 use Rattle.matchings.specs.Matching.{vectorOf, checkMatching}
@@ -32,7 +29,7 @@ use Rattle.stability.specs.Laws.Judged.{BookJudged}
 use Rattle.nearest.specs.declared.answer.Nearest.{Nearest}
 use Rattle.repairs.specs.Repair.{answerFor}
 use Rattle.repairs.specs.Grade.{gradeOf}
-use Rattle.nearest.specs.Laws.Grade.{far-same, far-alike, costs-alike}
+use Rattle.nearest.specs.Laws.Grade.{far-same, far-alike, answer-each, costs-alike}
 use Rattle.nearest.specs.Nearest.{GivenIn, farOf, costs, Shows, ShowsFor}
 use Rattle.nearest.specs.Laws.Nearest.{shows-same, shows-alike}
 
@@ -72,9 +69,6 @@ module _ {b m : List ℕ} {R : Record} {j : Judged} (J : BookJudged b m R j) (f 
   given-stable : Stable (marketIn R) (vec (j .places .men))
   given-stable = stable-alike (alike-sym judged-alike) (same-alike judged-alike judged-men) (fine-vector b m f)
 
-  given-placed : {i : ℕ} → i < R .n → vec (j .places .men) i < lenIn (R .n) (R .n) (R .mlists) i
-  given-placed u = stable-full (judged-usable .men .proper) (judged-usable .complete) given-stable u
-
   -- what the check leaves is what the search asks
   pub judged-given : GivenIn R (j .places)
   judged-given =
@@ -86,14 +80,12 @@ module _ {b m : List ℕ} {R : Record} {j : Judged} (J : BookJudged b m R j) (f 
         stable = given-stable;
         mirror = mirror-alike (alike-sym judged-alike) (same-alike judged-alike judged-men) (same-alike (alike-exchange judged-alike) women)
             (mirror-of (market-proper W) (fine-vector b m f .settled));
-        placed = λ u. given-placed u;
       }
 
   -- the answer over the record is the answer for the bytes
   pub answer-book : (c : ℕ → ℕ) {s : ℕ} → s < R .n → SameAnswer (marketIn R) (answerOf (marketIn R) c (vec (j .places .men)) s) (answerFor b c m s)
   answer-book c u =
-      let M = judged-usable .men .proper in
-      answer-alike M (market-proper judged-formed) judged-alike c judged-men given-stable (hold-at M (vec (j .places .men)) u (given-placed u))
+      answer-each (judged-usable .men .proper) (market-proper judged-formed) judged-alike c judged-men given-stable u
 
   -- so are its distance
   pub far-book : (c : ℕ → ℕ) {s : ℕ} → s < R .n → farOf (marketIn R) c (vec (j .places .men)) (answerOf (marketIn R) c (vec (j .places .men)) s) ≡ farOf (market b) c (vectorOf b m) (answerFor b c m s)
@@ -106,6 +98,4 @@ module _ {b m : List ℕ} {R : Record} {j : Judged} (J : BookJudged b m R j) (f 
   -- and the largest cost over the record is the grade
   pub grade-book : (c : ℕ → ℕ) → maximum (R .n) (costs (marketIn R) c (vec (j .places .men))) ≡ gradeOf b c m
   grade-book c =
-      let M = judged-usable .men .proper in
-      costs-alike M (market-proper judged-formed) judged-alike c judged-men given-stable
-      (λ s u. (_, hold-at M (vec (j .places .men)) u (given-placed u)))
+      costs-alike (judged-usable .men .proper) (market-proper judged-formed) judged-alike c judged-men given-stable

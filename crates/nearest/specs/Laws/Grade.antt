@@ -1,15 +1,17 @@
 -- The grade over the record of a book is that of the book. Assumes nothing.
-use Prim.Native.Nat.{ℕ, _-_, _<_}
+use Prim.Native.Nat.{ℕ, _-_, _≤_, _<_}
 use mathlib.Core.Path.{_≡_, refl, _∙_, ap}
 use native.Mathlib.Omega.{arith}
+use Rattle.laws.specs.Choice.{split}
 use Rattle.laws.specs.Maximum.{maximum, maximum-same}
 use Rattle.stable_theory.specs.Stable.Market.{Market, Proper}
-use Rattle.stable_theory.specs.Stable.Vector.{Holds, Stable}
-use Rattle.stable_theory.specs.Stable.Holding.{Same}
-use Rattle.stable_theory.specs.Stable.Alike.{Alike}
+use Rattle.stable_theory.specs.Stable.Vector.{Stable}
+use Rattle.stable_theory.specs.Stable.Holding.{Same, hold-at}
+use Rattle.stable_theory.specs.Stable.Alike.{Alike, stable-alike}
 use Rattle.stable_theory.specs.Repairs.Moves.{weight-same}
 use Rattle.stable_theory.specs.Repairs.Answer.{Answer, U, D, F, answerOf, SameAnswer, same-up, same-down, same-fixed, cost, robustness}
 use Rattle.stable_theory.specs.Repairs.AnswerAlike.{weight-alike, answer-alike}
+use Rattle.stable_theory.specs.Repairs.RobustLaws.{all-answers}
 use Rattle.nearest.specs.Nearest.{farOf, costs}
 
 -- the same answer counts the same
@@ -30,14 +32,23 @@ cost-far I c p s (U v) = refl
 cost-far I c p s (D v) = refl
 cost-far I c p s F = omega arith
 
--- so the largest cost over one market is the robustness in a market that is alike
-pub costs-alike :
-    {I J : Market} → Proper I → Proper J → Alike I J → (c : ℕ → ℕ) {p q : ℕ → ℕ} → Same I p q → Stable I p → ((s : ℕ) → s < I .proposers .size → (w : ℕ) × Holds I p s w) →
-    maximum (I .proposers .size) (costs I c p) ≡ robustness J c q (answerOf J c q)
-unfolding robustness
-costs-alike {I} {J} M N A c {p} {q} e P held =
-    maximum-same (I .proposers .size) (costs I c p) (λ s. cost J c q s (answerOf J c q s))
-    (λ s u.
-    let h = held s u .1 in
-    ap (λ (k : ℕ). k - c s) (far-same c p (answer-alike M N A c e P h) ∙ far-alike A c e (answerOf J c q s)) ∙ cost-far J c q s (answerOf J c q s))
-    ∙ ap (λ (n : ℕ). maximum n (λ s. cost J c q s (answerOf J c q s))) (A .proposing .size)
+-- Markets that are alike, and vectors that agree, the first stable
+module _ {I J : Market} (M : Proper I) (N : Proper J) (A : Alike I J) (c : ℕ → ℕ) {p q : ℕ → ℕ} (e : Same I p q) (P : Stable I p) where
+  -- the answers for each proposer are the same, also for one who is not placed
+  pub answer-each : {s : ℕ} → s < I .proposers .size → SameAnswer I (answerOf I c p s) (answerOf J c q s)
+  answer-each {s} u =
+      split (I .proposers .len s) (p s)
+      (λ l.
+      let v : s < J .proposers .size = omega (arith, A .proposing .size) in
+      let k : J .proposers .len s ≤ q s = omega (arith, e s u, A .proposing .len u) in
+      rw (all-answers M c P .unplaced u l, all-answers N c (stable-alike A e P) .unplaced v k) same-fixed)
+      (λ l. answer-alike M N A c e P (hold-at M p u l))
+
+  -- so the largest cost over one is the robustness in the other
+  pub costs-alike : maximum (I .proposers .size) (costs I c p) ≡ robustness J c q (answerOf J c q)
+  unfolding robustness
+  costs-alike =
+      maximum-same (I .proposers .size) (costs I c p) (λ s. cost J c q s (answerOf J c q s))
+      (λ s u.
+      ap (λ (k : ℕ). k - c s) (far-same c p (answer-each u) ∙ far-alike A c e (answerOf J c q s)) ∙ cost-far J c q s (answerOf J c q s))
+      ∙ ap (λ (n : ℕ). maximum n (λ s. cost J c q s (answerOf J c q s))) (A .proposing .size)

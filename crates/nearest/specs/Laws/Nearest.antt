@@ -1,7 +1,7 @@
 -- The nearest repair: what the two pushes give is the answer, and the answer is the same in markets that are alike.
 -- Assumes nothing.
 use Prim.Native.Nat.{ℕ, _+_, _*_, _≤_, _<_}
-use mathlib.Core.Path.{_≡_, refl, _∙_}
+use mathlib.Core.Path.{_≡_, refl, _∙_, subst⁻¹}
 use mathlib.Core.List.{List}
 use native.Mathlib.Omega.{arith}
 use lib.ListN.{length}
@@ -13,8 +13,7 @@ use Rattle.stable_theory.specs.Stable.Holding.{Same, hold-at}
 use Rattle.stable_theory.specs.Stable.Alike.{Alike}
 use Rattle.stable_theory.specs.Stable.Mirror.{mirror-back, stable-across}
 use Rattle.stable_theory.specs.Repairs.Repair.{IsUp, weight}
-use Rattle.stable_theory.specs.Repairs.Answer.{Answer, U, D, F, answerOf, Answers, SameAnswer, same-up, same-down, same-fixed}
-use Rattle.stable_theory.specs.Repairs.AnswerLaws.{answer-of, answer-unique}
+use Rattle.stable_theory.specs.Repairs.Answer.{Answer, U, D, F, answerOf, SameAnswer, same-up, same-down, same-fixed}
 use Rattle.tables.specs.Lists.{atIn}
 use Rattle.tables.specs.Laws.Rows.{stored-index}
 use Rattle.format.specs.Record.{Record}
@@ -24,8 +23,8 @@ use Rattle.pushing.specs.Laws.Pushes.{weight-most}
 use Rattle.nearest.specs.declared.answer.Letter.the-variants.{Up, Down, Fixed}
 use Rattle.nearest.specs.declared.answer.Nearest.{Nearest}
 use Rattle.nearest.specs.Tried.{noRepair, Tries, Distant}
-use Rattle.nearest.specs.Laws.Tried.{distant-down, repair-up, distance-up, distant-up, answers-down, answers-up, answers-fixed}
-use Rattle.nearest.specs.Nearest.{Given, BothWeighed, Shows}
+use Rattle.nearest.specs.Laws.Tried.{distant-down, repair-up, distance-up, distant-up, answers-down, answers-up, answers-fixed, right}
+use Rattle.nearest.specs.Nearest.{Given, Placed, BothWeighed, Shows}
 
 -- the same answer, said so too
 pub shows-same : {I : Market} {p : ℕ → ℕ} {a b : Answer} {r : Nearest} → SameAnswer I a b → Shows I p a r → Shows I p b r
@@ -51,8 +50,12 @@ pub weight-below : {R : Record} {men women weights wweights : List ℕ} → Give
 weight-below {R} {men} {weights = weights} G B k =
     omega (arith, G .few, weight-most (marketIn R) (vec weights) (vec men) k (λ i u. B .men .light u))
 
--- The pair of man s of a stable matching of a record
-module _ {R : Record} {men women : List ℕ} (G : Given R men women) {s : ℕ} (u : s < R .n) where
+-- a number that is his is that of one who is placed
+pub placed-as : {R : Record} {men women : List ℕ} → Given R men women → {s t : ℕ} → s ≡ t → Placed R (vec men) t → Placed R (vec men) s
+placed-as {R} {men} G e l = subst⁻¹ (λ (x : ℕ). Placed R (vec men) x) e l
+
+-- The pair of man s, who is placed, of a stable matching of a record
+module _ {R : Record} {men women : List ℕ} (G : Given R men women) {s : ℕ} (u : s < R .n) (l : Placed R (vec men) s) where
   abbrev n : ℕ
   n = R .n
 
@@ -61,16 +64,16 @@ module _ {R : Record} {men women : List ℕ} (G : Given R men women) {s : ℕ} (
 
   -- his place j is within his row
   pub place-index : {j : ℕ} → j ≡ vec men s → s * R .n + j < length (R .mlists)
-  place-index {j} q = stored-index (G .by-men .proposers) u (omega (arith, G .placed u))
+  place-index {j} q = stored-index (G .by-men .proposers) u (omega arith)
 
   -- the men's vector may be pushed on
   pub men-pushable : Pushable I (vec men) (vec women) s
-  men-pushable = record { stable = G .stable; mirror = G .mirror; proposer = u; placed = G .placed u }
+  men-pushable = record { stable = G .stable; mirror = G .mirror; proposer = u; placed = l }
 
   module _ {j w : ℕ} (q : j ≡ vec men s) (e : w ≡ atIn (R .n) (R .mlists) s j) where
     -- man s holds the woman w at that place
     hold : Holds I (vec men) s w
-    hold = rw (e, q) (hold-at (G .by-men .proper) (vec men) u (G .placed u))
+    hold = rw (e, q) (hold-at (G .by-men .proper) (vec men) u l)
 
     -- and so may the women's
     pub women-pushable : Pushable (exchange I) (vec women) (vec men) w
@@ -81,10 +84,6 @@ module _ {R : Record} {men women : List ℕ} (G : Given R men women) {s : ℕ} (
           proposer = hold .pair .receiver;
           placed = let h = G .mirror .there hold in omega (arith, h .is, h .pair .lists);
         }
-
-    -- an answer that is right is the one that is worked out
-    pub right : {c : ℕ → ℕ} {a : Answer} → Answers I c (vec men) s a → SameAnswer I a (answerOf I c (vec men) s)
-    right {c} X = answer-unique X (answer-of (G .by-men .proper) c (G .stable) hold)
 
     module _ {weights wweights : List ℕ} (B : BothWeighed R (vec men) weights wweights) where
       -- the weight of each man
@@ -104,13 +103,13 @@ module _ {R : Record} {men women : List ℕ} (G : Given R men women) {s : ℕ} (
         pub says-down : {places : List ℕ} → ((i : ℕ) → i < n → vec places i ≡ d i) → length places ≡ largest → below < above →
             Shows I (vec men) (answerOf I c (vec men) s) (record { letter = Down; men = places })
         says-down e h l =
-            shows-same (right (answers-down most (up-distant T) (distant-down A) (omega arith) (A .repair l) (A .distance l) l))
+            shows-same (right (G .by-men .proper) (G .stable) u (answers-down most (up-distant T) (distant-down A) (omega arith) (A .repair l) (A .distance l) l))
             (record { letter = refl; places = e; long = h })
 
         pub says-fixed : length men ≡ largest → above ≤ below → noRepair ≤ above →
             Shows I (vec men) (answerOf I c (vec men) s) (record { letter = Fixed; men = men })
         says-fixed h l f =
-            shows-same (right (answers-fixed most (up-distant T) (distant-down A) (omega arith) l f))
+            shows-same (right (G .by-men .proper) (G .stable) u (answers-fixed most (up-distant T) (distant-down A) (omega arith) l f))
             (record { letter = refl; places = λ i v. refl; long = h })
 
         pub says-up : {places : List ℕ} → ((i : ℕ) → i < n → vec places i ≡ x i) → length places ≡ largest → above ≤ below → above < noRepair →
@@ -118,5 +117,5 @@ module _ {R : Record} {men women : List ℕ} (G : Given R men women) {s : ℕ} (
         says-up e h l g =
             let X = repair-up (G .by-men .proper) (G .stable) (G .mirror) hold (B .both) T g in
             let q = distance-up (G .by-men .proper) (G .stable) (G .mirror) hold (B .both) T g in
-            shows-same (right (answers-up most (up-distant T) (distant-down A) (omega arith) X q l))
+            shows-same (right (G .by-men .proper) (G .stable) u (answers-up most (up-distant T) (distant-down A) (omega arith) X q l))
             (record { letter = refl; places = e; long = h })

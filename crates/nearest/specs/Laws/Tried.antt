@@ -1,19 +1,22 @@
--- A push on one side gives the repair on that side, or says how near it is not; and the nearer of the two repairs is
--- the answer. Assumes nothing.
+-- A push on one side gives the repair on that side, or says how near it is not; the nearer of the two repairs is the
+-- answer, and the one that is worked out. Assumes nothing.
 use Prim.Native.Nat.{ℕ, _≤_, _<_}
 use mathlib.Core.Path.{_≡_, refl, sym, _∙_}
 use native.Mathlib.Omega.{arith}
 use Rattle.laws.specs.Choice.{split}
 use Rattle.stable_theory.specs.Stable.Market.{Market, Proper, exchange, exchanged}
 use Rattle.stable_theory.specs.Stable.Vector.{Holds, Stable, Mirror}
-use Rattle.stable_theory.specs.Stable.Holding.{Same}
+use Rattle.stable_theory.specs.Stable.Holding.{Same, hold-at}
+use Rattle.stable_theory.specs.Stable.Lattice.{placed-too}
 use Rattle.stable_theory.specs.Stable.Mirror.{mirror-of, mirror-back, mirror-order, stable-across}
 use Rattle.stable_theory.specs.Stable.Alike.{alike-refl, mirror-alike}
-use Rattle.stable_theory.specs.Repairs.Repair.{IsDown, IsUp, down, weight}
+use Rattle.stable_theory.specs.Repairs.Repair.{Parts, IsDown, IsUp, down, weight}
 use Rattle.stable_theory.specs.Repairs.RepairLaws.{down-is, down-exists, down-unique, up-unique, parts-across, down-across}
 use Rattle.stable_theory.specs.Repairs.Moves.{weight-same}
 use Rattle.stable_theory.specs.Repairs.BothSides.{PartnerWeights, weight-both}
-use Rattle.stable_theory.specs.Repairs.Answer.{U, D, F, Answers, nearer-up, nearer-down, neither}
+use Rattle.stable_theory.specs.Repairs.Answer.{Answer, U, D, F, answerOf, Answers, nearer-up, nearer-down, neither, SameAnswer, same-fixed}
+use Rattle.stable_theory.specs.Repairs.AnswerLaws.{answer-of, answer-unique}
+use Rattle.stable_theory.specs.Repairs.RobustLaws.{all-answers}
 use Rattle.stable_theory.specs.Repairs.AnswerAlike.{down-alike, weight-alike}
 use Rattle.pushing.specs.Push.{PushWeighed, PushedTo}
 use Rattle.nearest.specs.Tried.{Tries, Distant}
@@ -113,3 +116,25 @@ module _ {I : Market} {c p : ℕ → ℕ} {s : ℕ} {all far stop near : ℕ} (m
       (λ k Y. split stop near
       (λ g. omega (arith, B .further g k Y, most k))
       (λ g. let (v, Z, q) = B .near g in omega (arith, most v)))
+
+-- Answers for a proposer s of a stable vector, who may be placed or not
+module _ {I : Market} (M : Proper I) {p : ℕ → ℕ} (P : Stable I p) {s : ℕ} (u : s < I .proposers .size) where
+  -- who is not placed is so in every stable vector
+  unplaced-kept : I .proposers .len s ≤ p s → {k : ℕ → ℕ} → Parts I p s k → ⊥
+  unplaced-kept l {k} K =
+      split (I .proposers .len s) (k s)
+      (λ e. K .without (omega (arith, P .settled .within .bound u, K .stable .settled .within .bound u)))
+      (λ o. let h = placed-too M (K .stable) P (hold-at M k u o) in omega (arith, h .1 .is, h .1 .pair .lists))
+
+  -- so he has no repair
+  unplaced-fixed : I .proposers .len s ≤ p s → {c : ℕ → ℕ} {a : Answer} → Answers I c p s a → SameAnswer I a F
+  unplaced-fixed l (nearer-up X f) = absurd (unplaced-kept l (X .parts))
+  unplaced-fixed l (nearer-down X f) = absurd (unplaced-kept l (X .parts))
+  unplaced-fixed l (neither n m) = same-fixed
+
+  -- and an answer that is right is the one that is worked out
+  pub right : {c : ℕ → ℕ} {a : Answer} → Answers I c p s a → SameAnswer I a (answerOf I c p s)
+  right {c} X =
+      split (I .proposers .len s) (p s)
+      (λ l. rw (all-answers M c P .unplaced u l) (unplaced-fixed l X))
+      (λ l. answer-unique X (answer-of M c P (hold-at M p u l)))

@@ -17,9 +17,9 @@ use Rattle.matchings.specs.declared.places.Places.{Places}
 use Rattle.instances.specs.Usable.{marketIn}
 use Rattle.nearest.specs.Tried.{noRepair, Distant}
 use Rattle.nearest.specs.Nearest.{GivenIn, BothWeighed, costs}
-use Rattle.nearest.specs.Laws.Tried.{answers-down, answers-up, answers-fixed}
+use Rattle.nearest.specs.Laws.Tried.{answers-down, answers-up, answers-fixed, right}
 use Rattle.nearest.specs.Laws.Grade.{far-same}
-use Rattle.nearest.specs.Laws.Nearest.{right, weight-below}
+use Rattle.nearest.specs.Laws.Nearest.{weight-below}
 use Rattle.pair_groups.specs.declared.groups.Groups.{Groups}
 use Rattle.pair_groups.specs.Groups.{GroupsOf}
 use Rattle.pair_measures.specs.Measured.{leadFar, BothMeasured, Filled}
@@ -76,21 +76,21 @@ module _ {R : Record} {p : Places} (G : GivenIn R p) {weights wweights : List �
         split (over s) (near s)
         (λ b. split noRepair (over s)
         (λ f.
-        let Q = right G u refl refl (answers-fixed most up-distant X l b f) in
+        let Q = right (G .by-men .proper) (G .stable) u (answers-fixed most up-distant X l b f) in
         record {
           letter = E .letter u ∙ rw (le-ltb (near s) (over s) b, le-leb noRepair (over s) f) (letter-same Q);
           distance = E .distance u ∙ rw (le-ltb (near s) (over s) b, le-leb noRepair (over s) f) (far-same c men Q);
         })
         (λ f.
         let (v, Y, e) = up-distant .near f in
-        let Q = right G u refl refl (answers-up most up-distant X l Y e b) in
+        let Q = right (G .by-men .proper) (G .stable) u (answers-up most up-distant X l Y e b) in
         record {
           letter = E .letter u ∙ rw (le-ltb (near s) (over s) b, lt-leb noRepair (over s) f) (letter-same Q);
           distance = E .distance u ∙ rw (le-ltb (near s) (over s) b, lt-leb noRepair (over s) f) (e ∙ far-same c men Q);
         }))
         (λ b.
         let (v, Y, e) = X .near (omega arith) in
-        let Q = right G u refl refl (answers-down most up-distant X l Y e b) in
+        let Q = right (G .by-men .proper) (G .stable) u (answers-down most up-distant X l Y e b) in
         record {
           letter = E .letter u ∙ rw (lt-ltb (near s) (over s) b) (letter-same Q);
           distance = E .distance u ∙ rw (lt-ltb (near s) (over s) b) (e ∙ far-same c men Q);

@@ -59,13 +59,14 @@ module _ {r : Record} (U : Usable r) {best : Places} (P : PlacesIn (r .n) (marke
 
 -- the groups that it leaves at the front of an array are those of the array
 pub grouped-front :
-    {n : ℕ} {Repair : ℕ → (ℕ → ℕ) → Type 0} → n ≤ largest → (x y : List ℕ) → length x ≡ length (take n (zeros largest)) →
-    Grouped n Repair (vec x) → Grouped n Repair (vec (x ++ y))
-grouped-front {n} {Repair} few x y e G s u =
-    let same : (i : ℕ) → i < n → vec (x ++ y) i ≡ vec x i = λ i l. List·getD-append x y 0 i (omega (arith, zeros-front few)) in
+    {I : Market} {g : ℕ → ℕ} {Repair : Market → (ℕ → ℕ) → ℕ → (ℕ → ℕ) → Type 0} → I .proposers .size ≤ largest → (x y : List ℕ) →
+    length x ≡ length (take (I .proposers .size) (zeros largest)) → Grouped I g Repair (vec x) → Grouped I g Repair (vec (x ++ y))
+grouped-front {I} few x y e G s u =
+    let same : (i : ℕ) → i < I .proposers .size → vec (x ++ y) i ≡ vec x i = λ i l. List·getD-append x y 0 i (omega (arith, zeros-front few)) in
     ⊎-elim
     (λ N. inl (record { none = same s u ∙ N .none; no-repair = N .no-repair }))
     (λ L. inr (record {
+      placed = L .placed;
       low = omega (arith, same s u, L .low);
       own = rw (same s u) (same (vec x s) (L .low) ∙ L .own);
       alike = λ d. rw (same s u) (L .alike d);

@@ -11,19 +11,19 @@ use Rattle.nearest.specs.Tried.{noRepair, Distant}
 use Rattle.pair_measures.specs.Measured.{leadFar, Measured, Bounded, BothMeasured}
 
 -- What is measured for the one who answers for s holds of s: up to his bound, or exactly where nobody answers
-module _ {I : Market} {c p : ℕ → ℕ} {n : ℕ} {Is : ℕ → (ℕ → ℕ) → Type 0} {lead stop far : ℕ → ℕ}
-    (G : Grouped n Is lead) (A : Measured I c p n Is lead stop far) {s : ℕ} (u : s < n) where
+module _ {I : Market} {c p : ℕ → ℕ} {Repair : Market → (ℕ → ℕ) → ℕ → (ℕ → ℕ) → Type 0} {lead stop far : ℕ → ℕ}
+    (G : Grouped I p Repair lead) (A : Measured I c p (I .proposers .size) (Repair I p) lead stop far) {s : ℕ} (u : s < I .proposers .size) where
   pub lead-distant :
       {C : Type 0} →
-      (lead s < n → Distant I c p (Is s) (stop (lead s)) (leadFar n (lead s) far) → leadFar n (lead s) far ≤ stop (lead s) → C) →
-      (Distant I c p (Is s) noRepair (leadFar n (lead s) far) → leadFar n (lead s) far ≡ noRepair → C) → C
+      (lead s < I .proposers .size → Distant I c p (Repair I p s) (stop (lead s)) (leadFar (I .proposers .size) (lead s) far) → leadFar (I .proposers .size) (lead s) far ≤ stop (lead s) → C) →
+      (Distant I c p (Repair I p s) noRepair (leadFar (I .proposers .size) (lead s) far) → leadFar (I .proposers .size) (lead s) far ≡ noRepair → C) → C
   lead-distant led alone =
       ⊎-elim
       (λ N.
-      let e : leadFar n (lead s) far ≡ noRepair = rw (le-ltb (lead s) n (omega (arith, N .none))) in
+      let e : leadFar (I .proposers .size) (lead s) far ≡ noRepair = rw (le-ltb (lead s) (I .proposers .size) (omega (arith, N .none))) in
       alone (record { near = λ z. absurd (omega arith); further = λ z d X. absurd (N .no-repair d X) }) e)
       (λ L.
-      let e : leadFar n (lead s) far ≡ far (lead s) = rw (lt-ltb (lead s) n (L .low)) in
+      let e : leadFar (I .proposers .size) (lead s) far ≡ far (lead s) = rw (lt-ltb (lead s) (I .proposers .size) (L .low)) in
       let X = A .distant (L .low) (L .own) in
       led (L .low)
       (rw e (record {
@@ -33,9 +33,16 @@ module _ {I : Market} {c p : ℕ → ℕ} {n : ℕ} {Is : ℕ → (ℕ → ℕ) 
       (rw e (A .most (L .low) (L .own))))
       (G s u)
 
+-- who answers for his group is placed
+pub lead-placed :
+    {I : Market} {p : ℕ → ℕ} {Repair : Market → (ℕ → ℕ) → ℕ → (ℕ → ℕ) → Type 0} {lead : ℕ → ℕ} → Grouped I p Repair lead →
+    {s : ℕ} → s < I .proposers .size → lead s ≡ s → p s < I .proposers .len s
+lead-placed G {s} u e = ⊎-elim (λ N. absurd (omega (arith, N .none))) (λ L. L .placed) (G s u)
+
 -- no distance up is over `noRepair`
-pub lead-most : {I : Market} {c p : ℕ → ℕ} {n : ℕ} {Is : ℕ → (ℕ → ℕ) → Type 0} {lead far : ℕ → ℕ} →
-    Grouped n Is lead → Measured I c p n Is lead (λ s. noRepair) far → {s : ℕ} → s < n → leadFar n (lead s) far ≤ noRepair
+pub lead-most : {I : Market} {c p : ℕ → ℕ} {Repair : Market → (ℕ → ℕ) → ℕ → (ℕ → ℕ) → Type 0} {lead far : ℕ → ℕ} →
+    Grouped I p Repair lead → Measured I c p (I .proposers .size) (Repair I p) lead (λ s. noRepair) far →
+    {s : ℕ} → s < I .proposers .size → leadFar (I .proposers .size) (lead s) far ≤ noRepair
 lead-most G A u = lead-distant G A u (λ l X m. m) (λ X e. omega arith)
 
 -- both repairs, measured one after the other

@@ -23,14 +23,14 @@ use Rattle.matchings.specs.BookMarket.{market}
 use Rattle.matchings.specs.Matching.{womanOf, manRank, vectorOf, checkMatching, MatchingIn}
 use Rattle.matchings.specs.Extreme.{matchingOf}
 use Rattle.matchings.specs.Laws.StableCheck.{fine-stable}
-use Rattle.matchings.specs.Laws.StableVector.{fine-vector}
+use Rattle.matchings.specs.Laws.StableVector.{place-rank, fine-vector}
 use Rattle.instances.specs.Usable.{marketIn}
 use Rattle.stability.specs.Laws.Judged.{BookJudged}
 use Rattle.extremes.specs.Places.{womenAt}
 use Rattle.extremes.specs.Laws.ExtremeBytes.{women-filled}
 use Rattle.repairs.specs.Weights.{movedWeight}
 use Rattle.repairs.specs.Repair.{up, down, gainsOf, withDistance, entriesFor, matchingFor, gainsFor}
-use Rattle.repairs.specs.Laws.Bytes.{place-of, moved-vector, vector-place}
+use Rattle.repairs.specs.Laws.Bytes.{moved-vector, vector-place}
 use Rattle.nearest.specs.declared.answer.Nearest.{Nearest}
 use Rattle.nearest.specs.Nearest.{Shows, vectorAfter}
 use Rattle.nearest.specs.Laws.Book.{judged-formed, judged-tables, judged-number, judged-alike, judged-men}
@@ -52,7 +52,7 @@ module _ {b m : List ℕ} {R : Record} {j : Judged} (J : BookJudged b m R j) (f 
 
     -- so the women at them are the matching of the vector
     bytes-after : (out : List ℕ) → womenAt (R .n) (R .mlists) p ++ drop (R .n) out ≡ matchingOf b v ++ drop (people b) out
-    bytes-after out = women-filled (judged-formed J f) (judged-tables J f) places-stable same {v = fine} refl refl out _ refl
+    bytes-after out = women-filled (judged-formed J f) (judged-tables J f) same {v = fine} refl refl out _ refl
 
     -- and the gains are those from m to it
     gains-of : gainsAt (R .n) (vec (j .places .men)) p ≡ gainsOf b m (matchingOf b v)
@@ -60,7 +60,7 @@ module _ {b m : List ℕ} {R : Record} {j : Judged} (J : BookJudged b m R j) (f 
         values-same (R .n) _ _
         (λ i u.
         let l : i < people b = omega (arith, judged-number J f) in
-        ap₂ less (judged-men J f i u ∙ place-of inside l) (same i u ∙ sym (vector-place (judged-formed J f) S l)))
+        ap₂ less (judged-men J f i u ∙ place-rank inside l) (same i u ∙ sym (vector-place (judged-formed J f) S l)))
         ∙ ap (values (λ i. less (manRank b i (womanOf m i)) (manRank b i (womanOf (matchingOf b v) i))) 0) (judged-number J f)
 
     -- the weight of those who are moved is that of the bytes

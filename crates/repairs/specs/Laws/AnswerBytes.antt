@@ -1,6 +1,7 @@
 -- The answer of a book and a matching, of bytes: it is fixed exactly where every stable matching holds the pair, and
--- otherwise the repair that document 01 takes, and none weighs less. Assumes nothing.
-use Prim.Native.Nat.{ℕ, _<_}
+-- otherwise the repair that document 01 takes, and none weighs less; a student without a mentor has none. Assumes
+-- nothing.
+use Prim.Native.Nat.{ℕ, _≤_, _<_}
 use mathlib.Core.Path.{_≡_, refl, sym, _∙_}
 use mathlib.Core.List.{List, _++_}
 use mathlib.Core.Logic.{_↔_}
@@ -11,26 +12,31 @@ use Rattle.laws.specs.Values.{length-values}
 use Rattle.format.specs.Verdict.{fine}
 use Rattle.format.specs.Outcome.{gives, filled}
 use Rattle.format.specs.Format.{people}
-use Rattle.stable_theory.specs.Matchings.Matching.{partners}
 use Rattle.stable_theory.specs.Repairs.Repair.{Parts, Fixed, IsDown, IsUp, weight}
-use Rattle.stable_theory.specs.Repairs.Answer.{Answer, Answers, nearer-up, nearer-down, neither, Nearest}
+use Rattle.stable_theory.specs.Repairs.Answer.{Answer, F, Answers, nearer-up, nearer-down, neither, Nearest}
 use Rattle.stable_theory.specs.Repairs.AnswerLaws.{answer-right}
+use Rattle.stable_theory.specs.Repairs.RobustLaws.{all-answers}
 use Rattle.matchings.specs.BookMarket.{market, market-proper}
-use Rattle.matchings.specs.Matching.{vectorOf, StableIn}
-use Rattle.matchings.specs.Extreme.{matchingOf}
+use Rattle.matchings.specs.Matching.{womanOf, vectorOf, StableIn}
+use Rattle.matchings.specs.Extreme.{partnerAt, matchingOf}
+use Rattle.matchings.specs.Laws.Blocking.{alone-rank}
 use Rattle.matchings.specs.Laws.StableCheck.{fine-stable}
-use Rattle.matchings.specs.Laws.StableVector.{matching-of, vector-stable, fine-vector, vector-fine, vector-back}
+use Rattle.matchings.specs.Laws.StableVector.{place-rank, matching-of, vector-stable, fine-vector, vector-fine, vector-back}
 use Rattle.repairs.specs.Weights.{movedWeight}
-use Rattle.repairs.specs.Repair.{fixed, withDistance, entriesFor, matchingFor}
+use Rattle.repairs.specs.Repair.{fixed, answerFor, withDistance, entriesFor, matchingFor}
 use Rattle.repairs.specs.Laws.Bytes.{same-woman, moved-weight, moved-vector}
 use Rattle.repairs.specs.Laws.RepairBytes.{RepairAt, holds, without-parts, repair-bytes, repair-vector}
-use Rattle.repairs.specs.Promise.{InEvery, Without, NoWorse, NoBetter, Takes, takes-up, takes-down, Lightest}
+use Rattle.repairs.specs.Promise.{PairIn, InEvery, Without, NoWorse, NoBetter, Takes, takes-up, takes-down, Lightest}
 
 -- the n bytes that are written are the matching
 pub written-bytes : (b : List ℕ) (v : ℕ → ℕ) (out : List ℕ) → take (people b) (matchingOf b v ++ drop (people b) out) ≡ matchingOf b v
-written-bytes b v out = take-at (matchingOf b v) (drop (people b) out) (people b) (length-values (partners (market b) v) 0 (people b))
+written-bytes b v out = take-at (matchingOf b v) (drop (people b) out) (people b) (length-values (partnerAt b v) 0 (people b))
 
-module _ {b m : List ℕ} (S : StableIn b m) {s : ℕ} (l : s < people b) where
+module _ {b m : List ℕ} (S : StableIn b m) {s : ℕ} (P : PairIn b m s) where
+  -- he is a student of the book
+  student : s < people b
+  student = P .student
+
   -- up and down with the relation of their side
   up-at : {v : ℕ → ℕ} → IsUp (market b) (vectorOf b m) s v → RepairAt NoWorse (market b) (vectorOf b m) s v
   up-at K = record { parts = K .parts; toward = K .before; last = λ P le. K .last P le }
@@ -47,10 +53,10 @@ module _ {b m : List ℕ} (S : StableIn b m) {s : ℕ} (l : s < people b) where
   -- the pair is fixed in vectors exactly where it is in bytes
   pub every-fixed : InEvery b m s → Fixed (market b) (vectorOf b m) s
   every-fixed E k K =
-      sym (vector-back (S .matching .formed) K l) ∙ same-woman (S .matching) (matching-of (S .matching .formed) K) l .0 (E (matchingOf b k) (vector-fine (S .matching .formed) K))
+      sym (vector-back (S .matching .formed) K student) ∙ same-woman (S .matching) (matching-of (S .matching .formed) K) student .0 (E (matchingOf b k) (vector-fine (S .matching .formed) K))
 
   pub fixed-every : Fixed (market b) (vectorOf b m) s → InEvery b m s
-  fixed-every K k e = same-woman (S .matching) (fine-stable b k .0 e .matching) l .1 (K (vectorOf b k) (fine-vector b k e))
+  fixed-every K k e = same-woman (S .matching) (fine-stable b k .0 e .matching) student .1 (K (vectorOf b k) (fine-vector b k e))
 
   module _ (c : ℕ → ℕ) where
     -- the distances of bytes are the weights of vectors
@@ -62,7 +68,7 @@ module _ {b m : List ℕ} (S : StableIn b m) {s : ℕ} (l : s < people b) where
 
     -- what no vector undercuts no matching does
     lightest : {v : ℕ → ℕ} → Nearest (market b) c (vectorOf b m) s v → Lightest b c m s (matchingOf b v)
-    lightest N k K = omega (arith, far (N .parts), far-bytes k K, N .nearest (without-parts S l k K))
+    lightest N k K = omega (arith, far (N .parts), far-bytes k K, N .nearest (without-parts S student k K))
 
     -- the reply is fixed exactly where every stable matching holds the pair
     pub reply-fixed : {a : Answer} → Answers (market b) c (vectorOf b m) s a → withDistance b c m a ≡ fixed ↔ InEvery b m s
@@ -70,7 +76,7 @@ module _ {b m : List ℕ} (S : StableIn b m) {s : ℕ} (l : s < people b) where
         (λ e. let z : _≡_ {A = ℕ} 0 1 = cc in absurd (omega arith), λ E. absurd (K .parts .without (every-fixed E _ (K .parts .stable))))
     reply-fixed (nearer-down K f) =
         (λ e. let z : _≡_ {A = ℕ} 0 1 = cc in absurd (omega arith), λ E. absurd (K .parts .without (every-fixed E _ (K .parts .stable))))
-    reply-fixed (neither n k) = (λ e. fixed-every (answer-right (market-proper (S .matching .formed)) c (vector-stable S) (holds S l) (neither n k)), λ E. refl)
+    reply-fixed (neither n k) = (λ e. fixed-every (answer-right (market-proper (S .matching .formed)) c (vector-stable S) (holds S P) (neither n k)), λ E. refl)
 
     -- and else it is the repair that document 01 takes, and none weighs less
     pub reply-takes : (out : List ℕ) {a : Answer} → Answers (market b) c (vectorOf b m) s a → (InEvery b m s → ⊥) →
@@ -78,12 +84,20 @@ module _ {b m : List ℕ} (S : StableIn b m) {s : ℕ} (l : s < people b) where
         × Lightest b c m s (take (people b) (filled fine (entriesFor b a) (matchingFor b a) out))
     reply-takes out (nearer-up {u} K f) n =
         rw (written-bytes b u out) (
-          takes-up (repair-bytes S l (up-at K)) (λ d X. omega (arith, far (K .parts), far-bytes d (X .parts), f (vectorOf b d) (at-down (repair-vector S l d X)))),
-          lightest (answer-right (market-proper (S .matching .formed)) c (vector-stable S) (holds S l) (nearer-up K f)),
+          takes-up (repair-bytes S student (up-at K)) (λ d X. omega (arith, far (K .parts), far-bytes d (X .parts), f (vectorOf b d) (at-down (repair-vector S student d X)))),
+          lightest (answer-right (market-proper (S .matching .formed)) c (vector-stable S) (holds S P) (nearer-up K f)),
         )
     reply-takes out (nearer-down {d} K f) n =
         rw (written-bytes b d out) (
-          takes-down (repair-bytes S l (down-at K)) (λ u X. omega (arith, far (K .parts), far-bytes u (X .parts), f (vectorOf b u) (at-up (repair-vector S l u X)))),
-          lightest (answer-right (market-proper (S .matching .formed)) c (vector-stable S) (holds S l) (nearer-down K f)),
+          takes-down (repair-bytes S student (down-at K)) (λ u X. omega (arith, far (K .parts), far-bytes u (X .parts), f (vectorOf b u) (at-up (repair-vector S student u X)))),
+          lightest (answer-right (market-proper (S .matching .formed)) c (vector-stable S) (holds S P) (nearer-down K f)),
         )
     reply-takes out (neither k j) n = absurd (n (reply-fixed (neither k j) .0 refl))
+
+-- a student without a mentor has no pair, and no repair
+pub alone-answer :
+    {b m : List ℕ} → StableIn b m → (c : ℕ → ℕ) {s : ℕ} → s < people b → people b ≤ womanOf m s → answerFor b c m s ≡ F
+unfolding market
+alone-answer {b} S c u l =
+    let A = S .matching in
+    all-answers (market-proper (A .formed)) c (vector-stable S) .unplaced u (omega (arith, place-rank A u, alone-rank A u l))

@@ -9,32 +9,32 @@ use mathlib.Core.List.{List}
 use native.Mathlib.Omega.{arith}
 use lib.Dec.{eqb}
 use borrow.Author.Tests.{eq-eqb, ne-eqb}
-use Rattle.laws.specs.Choice.{pick, same}
+use Rattle.laws.specs.Choice.{pick, split, same}
 use Rattle.laws.specs.SumLaws.{sum-same}
 use Rattle.format.specs.Format.{people}
 use Rattle.format.specs.WellFormed.{WellFormed}
 use Rattle.stable_theory.specs.Stable.Vector.{Stable}
-use Rattle.stable_theory.specs.Matchings.MatchingLaws.{places-placed, same-place}
+use Rattle.stable_theory.specs.Matchings.MatchingLaws.{same-place}
 use Rattle.stable_theory.specs.Repairs.Repair.{moved, weight}
 use Rattle.stable_theory.specs.Repairs.Moves.{weight-same}
 use Rattle.matchings.specs.BookMarket.{market, market-proper}
 use Rattle.matchings.specs.Matching.{manRank, vectorOf, MatchingIn, womanOf}
 use Rattle.matchings.specs.Extreme.{matchingOf}
-use Rattle.matchings.specs.Laws.StableVector.{matching-in, matching-of, vector-back}
+use Rattle.matchings.specs.Laws.Blocking.{alone-entry}
+use Rattle.matchings.specs.Laws.StableVector.{matching-in, place-rank, matching-of, vector-back}
 use Rattle.repairs.specs.Weights.{movedWeight}
 
--- the place of a student's mentor
-pub place-of : {b m : List ℕ} → MatchingIn b m → {i : ℕ} → i < people b → vectorOf b m i ≡ manRank b i (womanOf m i)
-unfolding market
-place-of {b} {m} A {i} u = places-placed (market b) (womanOf m) i (A .names .below u)
-
 module _ {b m k : List ℕ} (A : MatchingIn b m) (B : MatchingIn b k) where
-  -- one mentor, one place
+  -- one mentor, one place; and who is alone in both has the end of his list for a place
   pub same-woman : {i : ℕ} → i < people b → womanOf k i ≡ womanOf m i ↔ vectorOf b k i ≡ vectorOf b m i
   unfolding market
   same-woman {i} u =
-      let S = same-place (market-proper (A .formed)) (matching-in B) (matching-in A) u in
-      (λ e. S .1 (ap (λ (w : ℕ). min w (people b)) e), λ e. omega (arith, S .0 e, A .names .below u, B .names .below u))
+      let S = same-place (market-proper (A .formed)) (matching-in B) (matching-in A) u in (
+        λ e. S .1 (ap (λ (w : ℕ). min w (people b)) e),
+        λ e.
+            let q = S .0 e in
+            split (people b) (womanOf m i) (λ l. alone-entry B u (omega arith) ∙ sym (alone-entry A u l)) (λ l. omega arith),
+      )
 
   -- so the two tests agree
   pub moved-woman : {i : ℕ} → i < people b → not (eqb (womanOf k i) (womanOf m i)) ≡ moved (vectorOf b m) (vectorOf b k) i
@@ -57,6 +57,6 @@ moved-vector {b} {m} A c {v} S =
     let W = A .formed in
     moved-weight A (matching-of W S) c ∙ weight-same (market b) c (vectorOf b m) (vectorOf b (matchingOf b v)) v (λ i u. vector-back W S u)
 
--- the place of a student's mentor in it is that of the vector
+-- the place of a student's mentor in it, or the end of his list, is that of the vector
 pub vector-place : {b : List ℕ} (W : WellFormed b) {v : ℕ → ℕ} (S : Stable (market b) v) {i : ℕ} → i < people b → manRank b i (womanOf (matchingOf b v) i) ≡ v i
-vector-place W S u = sym (place-of (matching-of W S) u) ∙ vector-back W S u
+vector-place W S u = sym (place-rank (matching-of W S) u) ∙ vector-back W S u

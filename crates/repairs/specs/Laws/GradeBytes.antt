@@ -19,12 +19,12 @@ use Rattle.matchings.specs.BookMarket.{market, market-proper}
 use Rattle.matchings.specs.Matching.{vectorOf, checkMatching, MatchingIn, StableIn, womanOf}
 use Rattle.matchings.specs.Extreme.{matchingOf}
 use Rattle.matchings.specs.Laws.StableCheck.{fine-stable}
-use Rattle.matchings.specs.Laws.StableVector.{matching-of, vector-stable, vector-back}
+use Rattle.matchings.specs.Laws.StableVector.{on-placed, matching-of, vector-stable, vector-back}
 use Rattle.repairs.specs.Grade.{gradeOf}
 use Rattle.repairs.specs.Laws.Bytes.{moved-woman}
 use Rattle.repairs.specs.Laws.RepairBytes.{holds, parts-without, without-parts}
 use Rattle.repairs.specs.Laws.AnswerBytes.{every-fixed, fixed-every}
-use Rattle.repairs.specs.Promise.{movedBesides, Covers}
+use Rattle.repairs.specs.Promise.{PairIn, movedBesides, Covers}
 
 -- what those moved besides s weigh is the same of bytes and of places
 moved-besides : {b m k : List ℕ} → MatchingIn b m → MatchingIn b k → (c : ℕ → ℕ) (s : ℕ) → movedBesides (people b) c m k s ≡ besides (market b) c (vectorOf b m) s (vectorOf b k)
@@ -48,7 +48,8 @@ module _ {b m : List ℕ} (S : StableIn b m) {c : ℕ → ℕ} {g : ℕ} where
       record {
         robust = λ {s} h n.
             let l = h .pair .proposer in
-            let k = C .covers s l (λ E. n (every-fixed S l E)) in
+            let P : PairIn b m s = record { student = l; mentor = on-placed (S .matching) l (omega (arith, h .is, h .pair .lists)) } in
+            let k = C .covers s P (λ E. n (every-fixed S P E)) in
             (vectorOf b (k .0), without-parts S l (k .0) (k .1), omega (arith, k .2, moved-besides (S .matching) (fine-stable b (k .0) .0 (k .1 .stable) .matching) c s));
       }
 
@@ -56,12 +57,12 @@ module _ {b m : List ℕ} (S : StableIn b m) {c : ℕ → ℕ} {g : ℕ} where
   robust-covers : Robust (market b) c (vectorOf b m) g → Covers b c m g
   robust-covers R =
       record {
-        covers = λ s l n.
-            let r = R .robust (holds S l) (λ F. n (fixed-every S l F)) in
+        covers = λ s P n.
+            let r = R .robust (holds S P) (λ F. n (fixed-every S P F)) in
             let W = S .matching .formed in
             let K = r .1 .stable in (
               matchingOf b (r .0),
-              parts-without S l (r .1),
+              parts-without S (P .student) (r .1),
               omega (arith, r .2, moved-besides (S .matching) (matching-of W K) c s, besides-same b c m s (vectorOf b (matchingOf b (r .0))) (r .0) (λ i u. vector-back W K u)),
             );
       }

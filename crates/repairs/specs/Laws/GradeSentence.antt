@@ -17,12 +17,13 @@ use Rattle.format.specs.Laws.Outcome.{gives-same, after-fine}
 use Rattle.format.specs.Format.{people}
 use Rattle.stable_theory.specs.Repairs.Answer.{Answer, Answers, nearer-up, nearer-down, neither, cost, robustness}
 use Rattle.matchings.specs.BookMarket.{market}
-use Rattle.matchings.specs.Matching.{vectorOf, checkMatching, StableIn}
+use Rattle.matchings.specs.Matching.{vectorOf, checkMatching, StableIn, womanOf}
 use Rattle.repairs.specs.Repair.{RepairAnswer, up, down, fixed, withDistance, answerFor}
 use Rattle.repairs.specs.Grade.{gradeOf}
 use Rattle.repairs.specs.Laws.Bytes.{moved-vector}
+use Rattle.repairs.specs.Laws.AnswerBytes.{alone-answer}
 use Rattle.repairs.specs.Laws.Demand3.{inside, answers}
-use Rattle.repairs.specs.Promise.{AnswerIs, ReportedDistance, reported-up, reported-down, LargestLessOwn, largest-less-own, all-fixed}
+use Rattle.repairs.specs.Promise.{PairIn, AnswerIs, ReportedDistance, reported-up, reported-down, LargestLessOwn, largest-less-own, all-fixed}
 
 -- the distance that an answer carries, 0 where it is fixed
 abbrev distanceIn : RepairAnswer → ℕ
@@ -64,7 +65,7 @@ cost-is S c (neither n k) = omega arith
 
 -- `replies s` gives the answer for the pair of student s
 module _ (b : List ℕ) (c : ℕ → ℕ) (m : List ℕ) (f : checkMatching b m ≡ fine) (replies : ℕ → List ℕ → List ℤ → Outcome RepairAnswer)
-    (given : (s : ℕ) → s < people b → AnswerIs (people b) (replies s) (withDistance b c m (answerFor b c m s))) where
+    (given : (s : ℕ) → PairIn b m s → AnswerIs (people b) (replies s) (withDistance b c m (answerFor b c m s))) where
   answer : ℕ → RepairAnswer
   answer s = withDistance b c m (answerFor b c m s)
 
@@ -72,40 +73,52 @@ module _ (b : List ℕ) (c : ℕ → ℕ) (m : List ℕ) (f : checkMatching b m 
   less s = distanceIn (answer s) - c s
 
   -- what is reported is the distance of the answer: there are buffers that are long enough
-  only : {s : ℕ} → s < people b → {a : RepairAnswer} → AnswerIs (people b) (replies s) a → answer s ≡ a
+  only : {s : ℕ} → PairIn b m s → {a : RepairAnswer} → AnswerIs (people b) (replies s) a → answer s ≡ a
   unfolding answer
-  only {s} l A =
+  only {s} P A =
       let gains = values (λ i. pos 0) 0 (people b) in
       let room : people b ≤ length m = omega (arith, inside b m f .matching .long) in
       let gains-room : people b ≤ length gains = omega (arith, length-values (λ i. pos 0) 0 (people b)) in
-      gives-same (sym (given s l m gains room gains-room) ∙ A m gains room gains-room)
+      gives-same (sym (given s P m gains room gains-room) ∙ A m gains room gains-room)
 
-  reported-is : {s d : ℕ} → s < people b → ReportedDistance (people b) (replies s) d → distanceIn (answer s) ≡ d
-  reported-is l (reported-up A) = ap distanceIn (only l A)
-  reported-is l (reported-down A) = ap distanceIn (only l A)
+  reported-is : {s d : ℕ} → PairIn b m s → ReportedDistance (people b) (replies s) d → distanceIn (answer s) ≡ d
+  reported-is P (reported-up A) = ap distanceIn (only P A)
+  reported-is P (reported-down A) = ap distanceIn (only P A)
 
   -- the grade is the largest of these, each less the student's own weight
   grade-maximum : gradeOf b c m ≡ maximum (people b) less
-  unfolding market robustness less answer
+  unfolding market robustness cost less answer
   grade-maximum =
-      maximum-same (people b) (λ s. cost (market b) c (vectorOf b m) s (answerFor b c m s)) less (λ s l. cost-is (inside b m f) c (answers b m f c l))
+      maximum-same (people b) (λ s. cost (market b) c (vectorOf b m) s (answerFor b c m s)) less
+      (λ s u.
+      split (people b) (womanOf m s) (λ l. rw (alone-answer (inside b m f) c u l) (omega arith))
+      (λ l. cost-is (inside b m f) c (answers b m f c (record { student = u; mentor = l }))))
+
+  -- whose answer is a repair is in a pair
+  paired : {s : ℕ} → s < people b → repairs (answer s) ≡ true → PairIn b m s
+  unfolding answer
+  paired {s} u e =
+      split (people b) (womanOf m s)
+      (λ l. absurd (clash e (ap (λ (a : Answer). repairs (withDistance b c m a)) (alone-answer (inside b m f) c u l))))
+      (λ l. record { student = u; mentor = l })
 
   -- that of student s, whose pair is not fixed, is the largest
-  at : {s : ℕ} → s < people b → repairs (answer s) ≡ true → less s ≡ maximum (people b) less → LargestLessOwn (people b) c replies (gradeOf b c m)
+  at : {s : ℕ} → s < people b → repairs (answer s) ≡ true → less s ≡ maximum (people b) less → LargestLessOwn b c m replies (gradeOf b c m)
   unfolding less answer
-  at {s} l e q =
-      largest-less-own l (reported (answer s) (given s l) e)
-      (λ t d u R. omega (arith, maximum-ge (people b) less t u, reported-is u R))
+  at {s} u e q =
+      let P = paired u e in
+      largest-less-own P (reported (answer s) (given s P) e)
+      (λ t d T R. omega (arith, maximum-ge (people b) less t (T .student), reported-is T R))
       (omega (arith, grade-maximum))
 
   -- where all are fixed it is 0
-  none : ((s : ℕ) → s < people b → repairs (answer s) ≡ false) → LargestLessOwn (people b) c replies (gradeOf b c m)
+  none : ((s : ℕ) → s < people b → repairs (answer s) ≡ false) → LargestLessOwn b c m replies (gradeOf b c m)
   unfolding less answer
   none h =
-      all-fixed (λ s l. subst (AnswerIs (people b) (replies s)) (is-fixed (answer s) (h s l)) (given s l))
+      all-fixed (λ s P. subst (AnswerIs (people b) (replies s)) (is-fixed (answer s) (h s (P .student))) (given s P))
       (omega (arith, grade-maximum, maximum-le (people b) less 0 (λ s l. omega (arith, ap distanceIn (is-fixed (answer s) (h s l))))))
 
-  sentence : LargestLessOwn (people b) c replies (gradeOf b c m)
+  sentence : LargestLessOwn b c m replies (gradeOf b c m)
   unfolding less
   sentence =
       tested (some (λ s. repairs (answer s)) (people b))
@@ -121,6 +134,6 @@ module _ (b : List ℕ) (c : ℕ → ℕ) (m : List ℕ) (f : checkMatching b m 
 pub grade-largest :
     (b : List ℕ) (c : ℕ → ℕ) (m : List ℕ) → checkMatching b m ≡ fine → {v : Verdict} → v ≡ fine →
     (replies : ℕ → List ℕ → List ℤ → Outcome RepairAnswer) →
-    ((s : ℕ) → s < people b → AnswerIs (people b) (replies s) (withDistance b c m (answerFor b c m s))) →
-    (g : ℕ) × (after v (gradeOf b c m) ≡ gives g) × LargestLessOwn (people b) c replies g
+    ((s : ℕ) → PairIn b m s → AnswerIs (people b) (replies s) (withDistance b c m (answerFor b c m s))) →
+    (g : ℕ) × (after v (gradeOf b c m) ≡ gives g) × LargestLessOwn b c m replies g
 grade-largest b c m f e replies given = (gradeOf b c m, sym (after-fine e refl refl), sentence b c m f replies given)

@@ -13,11 +13,12 @@ use Rattle.format.specs.Format.{people}
 use Rattle.format.specs.Laws.Rows.{entries-same}
 use Rattle.matchings.specs.Matching.{manRank, checkMatching, MatchingIn, womanOf}
 use Rattle.matchings.specs.Laws.StableCheck.{fine-stable}
+use Rattle.matchings.specs.Laws.StableVector.{place-rank}
 use Rattle.repairs.specs.Weights.{movedWeight}
 use Rattle.repairs.specs.Repair.{RepairAnswer, up, down, fixed, replyAfter, matchingAfter, withDistance, answerFor}
-use Rattle.repairs.specs.Laws.Bytes.{place-of, same-woman}
+use Rattle.repairs.specs.Laws.Bytes.{same-woman}
 use Rattle.repairs.specs.Laws.Demand3.{fixed-iff, takes, reply-given}
-use Rattle.repairs.specs.Promise.{pairOf, written, InEvery, Repaired, RepairUp, RepairDown, Takes, takes-up, takes-down}
+use Rattle.repairs.specs.Promise.{PairIn, pairOf, written, InEvery, Repaired, RepairUp, RepairDown, Takes, takes-up, takes-down}
 
 -- matchings in which each student's mentor has the same place are the same bytes
 same-places : {b r q : List ℕ} → MatchingIn b r → MatchingIn b q → ((i : ℕ) → i < people b → manRank b i (womanOf r i) ≡ manRank b i (womanOf q i)) → r ≡ q
@@ -25,7 +26,7 @@ same-places {b} {r} {q} A B e =
     entries-same r q (A .long ∙ sym (B .long))
     (λ i (u : i < length r).
     let v : i < people b = omega (arith, A .long) in
-    same-woman B A v .1 (place-of A v ∙ e i v ∙ sym (place-of B v)))
+    same-woman B A v .1 (place-rank A v ∙ e i v ∙ sym (place-rank B v)))
 
 -- there is one repair on a side whose relation goes both ways only between equal places
 one-repaired : {R : ℕ → ℕ → Type 0} → ((x y : ℕ) → R x y → R y x → x ≡ y) → {b m : List ℕ} {s : ℕ} {r q : List ℕ} → Repaired R b m s r → Repaired R b m s q → r ≡ q
@@ -54,16 +55,16 @@ fixed-or-not (up d) f g = g (λ e. let z : _≡_ {A = ℕ} 0 1 = cc in omega ari
 fixed-or-not (down d) f g = g (λ e. let z : _≡_ {A = ℕ} 0 1 = cc in omega arith)
 fixed-or-not fixed f g = f refl
 
-module _ (b : List ℕ) (c : ℕ → ℕ) (m : List ℕ) (s : ℕ) (f : checkMatching b m ≡ fine) (l : s < people b) {v : Verdict} (e : v ≡ fine) (out : List ℕ) where
+module _ (b : List ℕ) (c : ℕ → ℕ) (m : List ℕ) (s : ℕ) (f : checkMatching b m ≡ fine) (P : PairIn b m s) {v : Verdict} (e : v ≡ fine) (out : List ℕ) where
   -- what meets demand 3 is the reply and the matching of the contract
   pub only-one :
       (r : List ℕ) (x : Outcome RepairAnswer) → (x ≡ gives fixed ↔ InEvery b m s) → ((InEvery b m s → ⊥) → Takes b c m s r x) →
       (x ≡ replyAfter v c b m (pairOf m s)) × ((InEvery b m s → ⊥) → r ≡ written b (matchingAfter v c b m (pairOf m s) out))
   only-one r x F T =
-      let G = fixed-iff b c m s f l e in
-      let K = takes b c m s f l e out in
+      let G = fixed-iff b c m s f P e in
+      let K = takes b c m s f P e out in
       let a = withDistance b c m (answerFor b c m s) in
-      let given : replyAfter v c b m (pairOf m s) ≡ gives a = reply-given b c m s f l e in
+      let given : replyAfter v c b m (pairOf m s) ≡ gives a = reply-given b c m s f P e in
       let not-every : (a ≡ fixed → ⊥) → InEvery b m s → ⊥ = λ n E. n (gives-same (sym given ∙ G .1 E)) in (
         fixed-or-not a (λ q. let g = given ∙ ap gives q in F .1 (G .0 g) ∙ sym g) (λ n. one-taken (T (not-every n)) (K (not-every n) .0) .1),
         λ n. one-taken (T n) (K n .0) .0,

@@ -13,9 +13,9 @@ use Rattle.matchings.specs.BookMarket.{market, market-proper}
 use Rattle.matchings.specs.Matching.{vectorOf, MatchingIn, StableIn, womanOf}
 use Rattle.matchings.specs.Extreme.{matchingOf}
 use Rattle.matchings.specs.Laws.StableCheck.{fine-stable}
-use Rattle.matchings.specs.Laws.StableVector.{matching-in, matching-of, vector-stable, fine-vector, vector-fine, vector-back}
-use Rattle.repairs.specs.Laws.Bytes.{place-of, same-woman, vector-place}
-use Rattle.repairs.specs.Promise.{Without, Repaired}
+use Rattle.matchings.specs.Laws.StableVector.{matching-in, place-rank, matching-of, vector-stable, fine-vector, vector-fine, vector-back}
+use Rattle.repairs.specs.Laws.Bytes.{same-woman, vector-place}
+use Rattle.repairs.specs.Promise.{PairIn, Without, Repaired}
 
 -- The repair on one side, of vectors: IsUp and IsDown with the relation of their side
 pub record RepairAt (R : ℕ → ℕ → Type 0) (I : Market) (p : ℕ → ℕ) (s : ℕ) (v : ℕ → ℕ) : Type 0 where
@@ -37,12 +37,12 @@ module _ {b m : List ℕ} (S : StableIn b m) where
   stable : Stable (market b) (vectorOf b m)
   stable = vector-stable S
 
-  module _ {s : ℕ} (l : s < people b) where
-    -- student s has a mentor in m
-    pub holds : Holds (market b) (vectorOf b m) s (womanOf m s)
-    unfolding market
-    holds = places-holds proper (matching-in within) l (within .names .below l) refl
+  -- a student in a pair of m holds his mentor
+  pub holds : {s : ℕ} → PairIn b m s → Holds (market b) (vectorOf b m) s (womanOf m s)
+  unfolding market
+  holds P = places-holds proper (matching-in within) (P .student) (P .mentor) refl
 
+  module _ {s : ℕ} (l : s < people b) where
     -- a stable vector without the pair is a stable matching without it
     pub parts-without : {v : ℕ → ℕ} → Parts (market b) (vectorOf b m) s v → Without b m s (matchingOf b v)
     parts-without K =
@@ -65,11 +65,11 @@ module _ {b m : List ℕ} (S : StableIn b m) where
     repair-bytes K =
         record {
           parts = parts-without (K .parts);
-          toward = λ i u. rw (vector-place formed (K .parts .stable) u, ← place-of within u) (K .toward i u);
+          toward = λ i u. rw (vector-place formed (K .parts .stable) u, ← place-rank within u) (K .toward i u);
           last = λ k L le i u.
               let A = fine-stable b k .0 (L .stable) .matching in
-              rw (vector-place formed (K .parts .stable) u, ← place-of A u)
-              (K .last (without-parts k L) (λ j v. rw (place-of A v, place-of within v) (le j v)) i u);
+              rw (vector-place formed (K .parts .stable) u, ← place-rank A u)
+              (K .last (without-parts k L) (λ j v. rw (place-rank A v, place-rank within v) (le j v)) i u);
         }
 
     -- and back
@@ -79,8 +79,8 @@ module _ {b m : List ℕ} (S : StableIn b m) where
         let A = fine-stable b r .0 (K .parts .stable) .matching in
         record {
           parts = without-parts r (K .parts);
-          toward = λ i u. rw (place-of A u, place-of within u) (K .toward i u);
+          toward = λ i u. rw (place-rank A u, place-rank within u) (K .toward i u);
           last = λ {k} L le i u.
-              rw (place-of A u, ← vector-place formed (L .stable) u)
-              (K .last (matchingOf b k) (parts-without L) (λ j v. rw (vector-place formed (L .stable) v, ← place-of within v) (le j v)) i u);
+              rw (place-rank A u, ← vector-place formed (L .stable) u)
+              (K .last (matchingOf b k) (parts-without L) (λ j v. rw (vector-place formed (L .stable) v, ← place-rank within v) (le j v)) i u);
         }

@@ -4,17 +4,18 @@ use Prim.Native.Nat.{ℕ, _≤_, _<_}
 use mathlib.Core.Path.{_≡_, refl, _∙_}
 use mathlib.Core.List.{List}
 use mathlib.Core.Bool.{not}
+use native.Mathlib.Omega.{arith}
 use lib.ListN.{length}
 use lib.Dec.{leb, ltb, eqb}
-use borrow.Author.Tests.{lt-leb, eq-eqb, ne-eqb, le-ltb, leb-false, ltb-false, eqb-true, not-false}
-use Rattle.laws.specs.Choice.{either, either-none}
+use borrow.Author.Tests.{lt-leb, le-leb, eq-eqb, ne-eqb, le-ltb, leb-false, ltb-false, eqb-true, not-false}
+use Rattle.laws.specs.Choice.{either, either-true, either-none}
 use Rattle.format.specs.Verdict.{fine, broken, rule}
 use Rattle.format.specs.Laws.Verdict.{goes-on, rule-fine}
 use Rattle.format.specs.Format.{people, pairRow}
 use Rattle.format.specs.Laws.Rows.{pair-first, pair-second, pair-long}
 use Rattle.matchings.specs.Matching.{checkMatching, womanOf}
-use Rattle.matchings.specs.Laws.StableCheck.{fine-stable}
 use Rattle.repairs.specs.Weights.{checkWeights, checkWeighed}
+use Rattle.repairs.specs.Promise.{PairIn}
 use Rattle.repairs.specs.Request.{askingMan, askingWoman, checkPair, checkAsked, checkRequest, checkWeightedRequest}
 
 -- student s and his mentor, with room
@@ -25,10 +26,10 @@ pair-fine n m s room gainsRoom u v h k =
 
 -- so the request for a pair of a stable matching is not refused
 pub request-fine :
-    (b m : List ℕ) (s : ℕ) → checkMatching b m ≡ fine → s < people b → {room gainsRoom : ℕ} → people b ≤ room → people b ≤ gainsRoom →
+    (b m : List ℕ) (s : ℕ) → checkMatching b m ≡ fine → PairIn b m s → {room gainsRoom : ℕ} → people b ≤ room → people b ≤ gainsRoom →
     checkRequest b m (pairRow s (womanOf m s)) room gainsRoom ≡ fine
-request-fine b m s f l {room} {gainsRoom} h k =
-    goes-on (checkMatching b m) _ f ∙ pair-fine (people b) m s room gainsRoom l (fine-stable b m .0 f .matching .names .below l) h k
+request-fine b m s f P {room} {gainsRoom} h k =
+    goes-on (checkMatching b m) _ f ∙ pair-fine (people b) m s room gainsRoom (P .student) (P .mentor) h k
 
 -- n weights are not refused
 pub weights-fine : (n : ℕ) (k : List ℕ) → length k ≡ n → checkWeights n k ≡ fine
@@ -50,12 +51,23 @@ weighed-fine b m k f e = goes-on (checkMatching b m) _ f ∙ weights-fine (peopl
 
 -- nor is the request with them
 pub weighted-fine :
-    (b m k : List ℕ) (s : ℕ) → checkMatching b m ≡ fine → length k ≡ people b → s < people b →
+    (b m k : List ℕ) (s : ℕ) → checkMatching b m ≡ fine → length k ≡ people b → PairIn b m s →
     {room gainsRoom : ℕ} → people b ≤ room → people b ≤ gainsRoom →
     checkWeightedRequest b m k (pairRow s (womanOf m s)) room gainsRoom ≡ fine
-weighted-fine b m k s f e l {room} {gainsRoom} h j =
+weighted-fine b m k s f e P {room} {gainsRoom} h j =
     goes-on (checkWeighed b m k) _ (weighed-fine b m k f e)
-    ∙ pair-fine (people b) m s room gainsRoom l (fine-stable b m .0 f .matching .names .below l) h j
+    ∙ pair-fine (people b) m s room gainsRoom (P .student) (P .mentor) h j
+
+module _ {n : ℕ} (m : List ℕ) (s w room gainsRoom : ℕ) where
+  -- who has no number of a mentor is refused by 11
+  pub pair-11 : n ≤ w → checkAsked n m (pairRow s w) room gainsRoom ≡ broken 11 0
+  unfolding checkAsked checkPair
+  pair-11 h = rw (pair-long, pair-first, pair-second, le-leb n w h, either-true (leb n s))
+
+  -- and a student whose mentor is another, or nobody, by 12
+  pub pair-12 : s < n → w < n → (womanOf m s ≡ w → ⊥) → checkAsked n m (pairRow s w) room gainsRoom ≡ broken 12 0
+  unfolding checkAsked checkPair
+  pair-12 u v h = rw (pair-long, pair-first, pair-second, lt-leb n s u, lt-leb n w v, ne-eqb (womanOf m s) w h)
 
 module _ (n : ℕ) (m q : List ℕ) (room gainsRoom : ℕ) where
   -- a request that is not two entries is refused by 13
@@ -70,13 +82,14 @@ module _ (n : ℕ) (m q : List ℕ) (room gainsRoom : ℕ) where
   asked-pair h x y = rw (eq-eqb (length q) 2 h, x, y)
 
 -- What is known of a request that is not refused
-pub record Asked (n : ℕ) (q : List ℕ) (room gainsRoom : ℕ) : Type 0 where
+pub record Asked (n : ℕ) (m q : List ℕ) (room gainsRoom : ℕ) : Type 0 where
   pub two : length q ≡ 2
   pub student : askingMan q < n
+  pub mentor : womanOf m (askingMan q) < n
   pub room-fits : n ≤ room
   pub gains-fit : n ≤ gainsRoom
 
-pub asked : (n : ℕ) (m q : List ℕ) (room gainsRoom : ℕ) → checkAsked n m q room gainsRoom ≡ fine → Asked n q room gainsRoom
+pub asked : (n : ℕ) (m q : List ℕ) (room gainsRoom : ℕ) → checkAsked n m q room gainsRoom ≡ fine → Asked n m q room gainsRoom
 unfolding checkAsked checkPair
 asked n m q room gainsRoom e =
     let short = either (ltb room n) (ltb gainsRoom n) in
@@ -89,4 +102,11 @@ asked n m q room gainsRoom e =
     let d = rule-fine short 14 0 fine (c .1) in
     let s = either-none (leb n (askingMan q)) (leb n (askingWoman q)) (k .0) in
     let r = either-none (ltb room n) (ltb gainsRoom n) (d .0) in
-    record { two = eqb-true _ _ (not-false _ (a .0)); student = leb-false _ _ (s .0); room-fits = ltb-false _ _ (r .0); gains-fit = ltb-false _ _ (r .1) }
+    let together : womanOf m (askingMan q) ≡ askingWoman q = eqb-true _ _ (not-false _ (c .0)) in
+    record {
+      two = eqb-true _ _ (not-false _ (a .0));
+      student = leb-false _ _ (s .0);
+      mentor = omega (arith, together, leb-false n (askingWoman q) (s .1));
+      room-fits = ltb-false _ _ (r .0);
+      gains-fit = ltb-false _ _ (r .1);
+    }

@@ -49,9 +49,9 @@ ones-given m n h =
       light = λ i. omega (arith, ones-most n i h);
       women-light = λ w. omega (arith, ones-light w);
       women-long = omega (arith, length-replicate {A = ℕ} largest 1);
-      partner = λ k few a b N i u.
+      partner = λ k few a b N i u l.
           let v : i < n = omega (arith, ones-length n h) in
-          ones-at (womanOf m i) (omega (arith, N .below u)) ∙ sym (ones-read n i h v);
+          ones-at (womanOf m i) (omega arith) ∙ sym (ones-read n i h v);
     }
 
 -- and where the matching is not refused, n weights of 1 for the students of the book

@@ -35,7 +35,7 @@ made s = let a = s .args in lent (a .n) (a .mlists) (a .mranks) (a .wlists) (a .
 allowed :
     (c : tie.After-enum-told) →
     let s = start (stable c) in
-    EachBook (s .args .answer) (made s) (λ b. Allowed b (now (s .args .matching)) (now (s .args .weights)) (made s) (stable c .judge .result))
+    EachBook (s .args .answer) (s .args .partial) (made s) (λ b. Allowed b (now (s .args .matching)) (now (s .args .weights)) (made s) (stable c .judge .result))
 allowed c = weights-allowed (stable c .judge .ensures) _ (weighed c .check-weights .ensures) (ap verdictOf (c .enum-told .given .1))
 
 returns : tie.Need-returns

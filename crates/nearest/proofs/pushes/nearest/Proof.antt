@@ -7,7 +7,7 @@ use lib.Seq.{length-take-le}
 use Rattle.format.specs.Format.{largest}
 use native.Mathlib.Omega.{arith}
 use borrow.Author.Needs.{needs}
-use Rattle.nearest.specs.Laws.Nearest.{place-index, men-pushable, women-pushable, says-down, says-fixed, says-up}
+use Rattle.nearest.specs.Laws.Nearest.{placed-as, place-index, men-pushable, women-pushable, says-down, says-fixed, says-up}
 use Rattle.nearest.proofs.pushes.nearest.Statement.{statement}
 use Rattle.nearest.proofs.pushes.nearest.Tie as tie
 
@@ -39,7 +39,10 @@ long-down : (c : tie.After-pushed2) → length (c .pushed2 .result .proposers) �
 long-down c = search needs
 
 list-at-requires : tie.Need-list-at-requires
-list-at-requires c κs = let m = man c in place-index (start m .pre .0 .0) (numbered m) (c .wide2 .ensures .0)
+list-at-requires c κs =
+    let m = man c in
+    let G = start m .pre .0 .0 in
+    place-index G (numbered m) (placed-as G (m .wide .ensures .0) (start m .pre .0 .2)) (c .wide2 .ensures .0)
 
 pushed-requires : tie.Need-pushed-requires
 pushed-requires c κs =
@@ -47,7 +50,8 @@ pushed-requires c κs =
     let m = man (place w) in
     let s = start m in
     let G = s .pre .0 .0 in
-    ((G .by-women, omega (arith, G .few, s .good), refl), (women-pushable G (numbered m) (place w .wide2 .ensures .0) (w .list-at .ensures .0), (s .pre .1 .women, omega arith)))
+    let l = placed-as G (m .wide .ensures .0) (s .pre .0 .2) in
+    ((G .by-women, omega (arith, G .few, s .good), refl), (women-pushable G (numbered m) l (place w .wide2 .ensures .0) (w .list-at .ensures .0), (s .pre .1 .women, omega arith)))
 
 pushed-requires-2 : tie.Need-pushed-requires-2
 pushed-requires-2 c κs =
@@ -55,7 +59,8 @@ pushed-requires-2 c κs =
     let m = man (place (woman u)) in
     let s = start m in
     let G = s .pre .0 .0 in
-    ((G .by-men, omega (arith, G .few, s .good), refl), (men-pushable G (numbered m), (s .pre .1 .men, u .pushed .ensures .most)))
+    let l = placed-as G (m .wide .ensures .0) (s .pre .0 .2) in
+    ((G .by-men, omega (arith, G .few, s .good), refl), (men-pushable G (numbered m) l, (s .pre .1 .men, u .pushed .ensures .most)))
 
 -- the fronts of the two arrays are lent
 share-women : tie.Need-array-share-prefix-women
@@ -69,8 +74,10 @@ returns c =
     let d : tie.After-pushed2 = search in
     let w = woman (up d) in
     let m = man (place w) in
+    let G = start m .pre .0 .0 in
+    let l = placed-as G (m .wide .ensures .0) (start m .pre .0 .2) in
     rw (← m .wide .ensures .0)
-    (says-down (start m .pre .0 .0) (numbered m) (place w .wide2 .ensures .0) (w .list-at .ensures .0) (start m .pre .1) (up d .pushed .ensures) (d .pushed2 .ensures)
+    (says-down G (numbered m) l (place w .wide2 .ensures .0) (w .list-at .ensures .0) (start m .pre .1) (up d .pushed .ensures) (d .pushed2 .ensures)
     (λ i v. refl) (long-down d) (c .before .if1 .taken))
 
 returns-2 : tie.Need-returns-2
@@ -78,8 +85,10 @@ returns-2 c =
     let d : tie.After-pushed2 = search in
     let w = woman (up d) in
     let m = man (place w) in
+    let G = start m .pre .0 .0 in
+    let l = placed-as G (m .wide .ensures .0) (start m .pre .0 .2) in
     rw (← m .wide .ensures .0)
-    (says-fixed (start m .pre .0 .0) (numbered m) (place w .wide2 .ensures .0) (w .list-at .ensures .0) (start m .pre .1) (up d .pushed .ensures) (d .pushed2 .ensures)
+    (says-fixed G (numbered m) l (place w .wide2 .ensures .0) (w .list-at .ensures .0) (start m .pre .1) (up d .pushed .ensures) (d .pushed2 .ensures)
     (omega (arith, start m .good)) (c .before .if1 .left) (c .if2 .taken))
 
 returns-3 : tie.Need-returns-3
@@ -87,8 +96,10 @@ returns-3 c =
     let d : tie.After-pushed2 = search in
     let w = woman (up d) in
     let m = man (place w) in
+    let G = start m .pre .0 .0 in
+    let l = placed-as G (m .wide .ensures .0) (start m .pre .0 .2) in
     rw (← m .wide .ensures .0)
-    (says-up (start m .pre .0 .0) (numbered m) (place w .wide2 .ensures .0) (w .list-at .ensures .0) (start m .pre .1) (up d .pushed .ensures) (d .pushed2 .ensures)
+    (says-up G (numbered m) l (place w .wide2 .ensures .0) (w .list-at .ensures .0) (start m .pre .1) (up d .pushed .ensures) (d .pushed2 .ensures)
     (λ i v. refl) (long-up (up d)) (c .before .before .if1 .left) (c .before .if2 .left))
 
 pub nearest-spec : {M : Type 1} → statement M

@@ -21,7 +21,7 @@ measure-requires c κs =
     let g : tie.After-group = search in
     let G = start g .pre .0 .1 in
     let W = g .group .ensures in
-    ((G, start g .pre .0 .2), (W .ups, record { downs = omega (arith, G .few, W .down-long); ups = omega (arith, G .few, W .up-long); aboves = G .few; belows = G .few }))
+    ((G, start g .pre .0 .2), (W .ups, (W .downs, record { downs = omega (arith, G .few, W .down-long); ups = omega (arith, G .few, W .up-long); aboves = G .few; belows = G .few })))
 
 fill-answers-requires : tie.Need-fill-answers-requires
 fill-answers-requires c κs =

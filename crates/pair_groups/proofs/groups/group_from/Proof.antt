@@ -34,8 +34,8 @@ returns c =
     let I = marketOf (s .args .n) (s .args .n) (now (s .args .mlists)) (now (s .args .wlists)) in
     record {
       all-rotations = p .pass .ensures .0;
-      downs = search (grouped-front {Repair = IsDown I (vec (s .args .t7))} few);
-      ups = search (grouped-front {Repair = IsUp I (vec (s .args .t7))} few);
+      downs = search (grouped-front {I = I} {g = vec (s .args .t7)} {Repair = IsDown} few);
+      ups = search (grouped-front {I = I} {g = vec (s .args .t7)} {Repair = IsUp} few);
       down-long = search (front-long few);
       up-long = search (front-long few);
     }

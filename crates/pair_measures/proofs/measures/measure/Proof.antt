@@ -17,13 +17,16 @@ above c = search
 abbrev bounded : tie.After-measure-down → tie.After-bound-down
 bounded c = search
 
+measure-up-requires : tie.Need-measure-up-requires
+measure-up-requires c κs = let s : tie.Start = search in (s .pre .0, (s .pre .1 .0, (s .pre .1 .1 .1 .ups, s .pre .1 .1 .1 .aboves)))
+
 bound-down-requires : tie.Need-bound-down-requires
 bound-down-requires c κs =
     let a : tie.After-measure-up = search in
     let s = start a in
     let P = s .pre in
     let few = P .0 .0 .few in
-    let M = P .1 .1 in
+    let M = P .1 .1 .1 in
     record {
       few = omega (arith, few);
       downs = M .downs;
@@ -39,7 +42,8 @@ measure-down-requires c κs =
     let b : tie.After-bound2 = search in
     let P = start (above (b .before)) .pre in
     let few = P .0 .0 .few in
-    ((P .0 .0, P .0 .1 .men), ((P .1 .1 .downs, omega (arith, few, b .bound2 .given), P .1 .1 .belows), λ s u. b .before .bound-down .ensures .most u))
+    let M = P .1 .1 .1 in
+    ((P .0 .0, P .0 .1 .men), (P .1 .1 .0, ((M .downs, omega (arith, few, b .bound2 .given), M .belows), λ s u. b .before .bound-down .ensures .most u)))
 
 returns : tie.Need-returns
 returns c =
@@ -51,7 +55,7 @@ pub measure-spec : {M : Type 1} → statement M
 measure-spec =
     tie.close
     (tie.spec
-    (λ c κs. search needs)
+    measure-up-requires
     (λ c. search needs)
     bound-down-requires
     (λ c. search needs)

@@ -12,6 +12,7 @@ use Rattle.stable_theory.specs.Repairs.Repair.{IsUp}
 use Rattle.nearest.specs.Tried.{noRepair}
 use Rattle.nearest.specs.Laws.Nearest.{place-index, women-pushable, up-distant}
 use Rattle.pair_measures.specs.Measured.{Measured}
+use Rattle.pair_measures.specs.Laws.Leads.{lead-placed}
 use Rattle.pair_measures.specs.Laws.Measuring.{measured-start, measured-skip, measured-on, measured-end}
 use Rattle.pair_measures.proofs.measures.measure_up.Statement.{statement}
 use Rattle.pair_measures.proofs.measures.measure_up.Tie as tie
@@ -29,7 +30,10 @@ list-at-requires : tie.Need-list-at-requires Inv-loop μ-loop
 list-at-requires c κs =
     let s : tie.Start Inv-loop μ-loop = search in
     let t : tie.In-loop Inv-loop μ-loop = search in
-    place-index (s .pre .0 .0) (t .loop-test .taken) (c .wide2 .ensures .0)
+    let o : tie.After-wide Inv-loop μ-loop = search in
+    let h : tie.Then1 Inv-loop μ-loop = search in
+    let u = t .loop-test .taken in
+    place-index (s .pre .0 .0) u (lead-placed (s .pre .1 .0) u (sym (o .wide .ensures .0) ∙ h .if1 .taken)) (c .wide2 .ensures .0)
 
 -- the front of the array is lent
 share-women : tie.Need-array-share-prefix-women Inv-loop μ-loop
@@ -41,8 +45,12 @@ pushed-requires c κs =
     let t : tie.In-loop Inv-loop μ-loop = search in
     let p : tie.After-wide2 Inv-loop μ-loop = search in
     let l : tie.After-list-at Inv-loop μ-loop = search in
+    let o : tie.After-wide Inv-loop μ-loop = search in
+    let h : tie.Then1 Inv-loop μ-loop = search in
     let G = s .pre .0 .0 in
-    ((G .by-women, omega (arith, G .few, s .good), refl), (women-pushable G (t .loop-test .taken) (p .wide2 .ensures .0) (l .list-at .ensures .0), (s .pre .0 .1 .women, omega arith)))
+    let u = t .loop-test .taken in
+    let q = lead-placed (s .pre .1 .0) u (sym (o .wide .ensures .0) ∙ h .if1 .taken) in
+    ((G .by-women, omega (arith, G .few, s .good), refl), (women-pushable G u q (p .wide2 .ensures .0) (l .list-at .ensures .0), (s .pre .0 .1 .women, omega arith)))
 
 loop-again : tie.Need-loop-again Inv-loop μ-loop
 loop-again c =
@@ -54,8 +62,10 @@ loop-again c =
     ⊎-elim
     (λ w.
     let T = w .4 .ensures in
-    let X = up-distant (s .pre .0 .0) (t .loop-test .taken) (w .1 .ensures .0) (w .2 .ensures .0) (s .pre .0 .1) T in
-    rw (w .5) (measured-on (l .loop .above) (I .0) (omega (arith, s .pre .1 .1, I .1, t .loop-test .taken)) X (T .most), simp length-set (I .1), omega arith))
+    let u = t .loop-test .taken in
+    let q = lead-placed (s .pre .1 .0) u (sym (o .wide .ensures .0) ∙ w .0 .taken) in
+    let X = up-distant (s .pre .0 .0) u q (w .1 .ensures .0) (w .2 .ensures .0) (s .pre .0 .1) T in
+    rw (w .5) (measured-on (l .loop .above) (I .0) (omega (arith, s .pre .1 .1 .1, I .1, t .loop-test .taken)) X (T .most), simp length-set (I .1), omega arith))
     (λ w. rw (w .1) (measured-skip (I .0) (λ e. w .0 .left (o .wide .ensures .0 ∙ e)), I .1, omega arith))
     (c .if1 .came)
 
@@ -67,7 +77,7 @@ measure-up-spec =
     μ-loop
     (λ c. (measured-start, refl, omega arith))
     (λ c. omega arith)
-    (λ c. let s : tie.Start Inv-loop μ-loop = search in omega (arith, s .pre .1 .0))
+    (λ c. let s : tie.Start Inv-loop μ-loop = search in omega (arith, s .pre .1 .1 .0))
     (λ c κs. tt)
     (λ c. omega arith)
     (λ c. let s : tie.Start Inv-loop μ-loop = search in omega (arith, s .pre .0 .0 .few, s .good))
@@ -77,7 +87,7 @@ measure-up-spec =
     (λ c. sym (length-take-le _ _ (share-women (c .before))))
     pushed-requires
     (λ c. omega arith)
-    (λ c. let s : tie.Start Inv-loop μ-loop = search in let l : tie.At-loop Inv-loop μ-loop = search in let t : tie.In-loop Inv-loop μ-loop = search in omega (arith, s .pre .1 .1, l .loop .inv .1, t .loop-test .taken))
+    (λ c. let s : tie.Start Inv-loop μ-loop = search in let l : tie.At-loop Inv-loop μ-loop = search in let t : tie.In-loop Inv-loop μ-loop = search in omega (arith, s .pre .1 .1 .1, l .loop .inv .1, t .loop-test .taken))
     (λ c. omega arith)
     (λ c. omega arith)
     loop-again

@@ -1,17 +1,20 @@
--- `check_pair` meets its contract: `known` says what is left to try of a man and a woman with numbers below n,
--- `together` of a pair of the matching, and each return rewrites with the tests that led there. Assumes nothing.
+-- `check_pair` meets its contract: `known` says what is left to try of a man and a woman with numbers below n, `entry`
+-- that the test of his partner is that of his entry, `together` what is left of a pair of the matching, and each return
+-- rewrites with the tests that led there. Assumes nothing.
 use Prim.Native.Nat.{_<_}
-use mathlib.Core.Path.{_≡_}
+use mathlib.Core.Path.{_≡_, _∙_}
 use mathlib.Core.Bool.{not}
 use native.Mathlib.Omega.{arith}
 use lib.Dec.{ltb, eqb}
 use denote.Ref.{now}
 use borrow.Author.Needs.{needs}
-use borrow.Author.Tests.{eq-eqb, ne-eqb, le-leb, lt-leb, lt-ltb, le-ltb}
+use borrow.Author.Tests.{le-leb, lt-leb, lt-ltb, le-ltb}
 use Rattle.laws.specs.Choice.{either}
+use Rattle.format.specs.Format.{nobody}
 use Rattle.format.specs.Verdict.{Verdict, fine, rule}
 use Rattle.matchings.specs.Matching.{womanOf}
 use Rattle.repairs.specs.Request.{checkPair}
+use Rattle.repair.specs.Laws.Partner.{partner-entry}
 use Rattle.repair.proofs.pair.check_pair.Statement.{statement}
 use Rattle.repair.proofs.pair.check_pair.Tie as tie
 
@@ -24,10 +27,13 @@ man c = search
 abbrev below : tie.Else2 → tie.Else1
 below c = search
 
-abbrev his : tie.Else3 → tie.After-woman-of
+abbrev his : tie.After-is-partner → tie.After-partner-of
 his c = search
 
-abbrev apart : tie.After-woman-of → tie.Else2
+abbrev tried : tie.Else3 → tie.After-is-partner
+tried c = search
+
+abbrev apart : tie.After-is-partner → tie.Else2
 apart c = search
 
 -- the verdict on the pair, and its last rule
@@ -54,8 +60,18 @@ known :
 unfolding checkPair
 known c = rw (lt-leb _ _ (man-lt (below c)), lt-leb _ _ (woman-lt c))
 
-together : (c : tie.Else3) → let s = start (man (below (apart (his c)))) in verdict s ≡ room s
-together c = rw (known (apart (his c)), ← his c .woman-of .ensures, eq-eqb _ _ (c .if3 .left))
+-- the partner is the woman where the entry of the matching is her number
+entry :
+    (c : tie.After-is-partner) →
+    let a = start (man (below (apart c))) .args in
+    c .is-partner .result ≡ eqb (womanOf (now (a .matching)) (a .pair .man .0)) (a .pair .woman .0)
+entry c =
+    let s = start (man (below (apart c))) in
+    let l : s .args .pair .woman .0 < nobody = omega (arith, woman-lt (apart c), s .pre .0) in
+    c .is-partner .ensures ∙ partner-entry (his c .partner-of .result) _ _ (his c .partner-of .ensures) l
+
+together : (c : tie.Else3) → let s = start (man (below (apart (tried c)))) in verdict s ≡ room s
+together c = rw (known (apart (tried c)), ← entry (tried c), c .if3 .left)
 
 returns : tie.Need-returns
 unfolding checkPair
@@ -74,9 +90,9 @@ returns-2 c =
 
 returns-3 : tie.Need-returns-3
 returns-3 c =
-    let h : tie.After-woman-of = search in
+    let h : tie.After-is-partner = search in
     let t : tie.Then3 = search in
-    rw (known (apart h), ← h .woman-of .ensures, ne-eqb _ _ (t .if3 .taken)) (c .refuse3 .ensures)
+    rw (known (apart h), ← entry h, t .if3 .taken) (c .refuse3 .ensures)
 
 returns-4 : tie.Need-returns-4
 returns-4 c = let e : tie.Else3 = search in rw (together e, lt-ltb _ _ (c .before .if4 .taken)) (c .refuse4 .ensures)
@@ -99,7 +115,8 @@ check-pair-spec =
     (λ c κs. search needs)
     (λ c κs. search needs)
     returns-2
-    (λ c κs. let e : tie.Else1 = search in let s : tie.Start = search in omega (arith, man-lt e, s .pre))
+    (λ c κs. let e : tie.Else1 = search in let s : tie.Start = search in omega (arith, man-lt e, s .pre .1))
+    (λ c κs. search needs)
     (λ c κs. search needs)
     returns-3
     (λ c κs. search needs)

@@ -9,12 +9,13 @@ use lib.ListN.{length}
 use borrow.Author.Needs.{needs}
 use Rattle.format.specs.Verdict.{fine, verdictOf}
 use Rattle.format.specs.Record.{Record, lent}
+use Rattle.matchings.specs.Matching.{womanOf}
 use Rattle.stability.specs.Judge.{EachBook}
 use Rattle.repairs.specs.Request.{checkPair, checkAsked}
 use Rattle.repairs.specs.Laws.Request.{Asked, asked, asked-13, asked-pair}
-use Rattle.nearest.specs.Laws.Book.{judged-given, judged-long}
+use Rattle.nearest.specs.Laws.Book.{judged-usable, judged-given, judged-long}
 use Rattle.nearest.specs.Laws.Weighed.{Allowed, weights-told, weights-allowed, allowed-weighed}
-use Rattle.repair.specs.Laws.Returns.{matching-refused, request-refused, given-small, found-writable, returns-found}
+use Rattle.repair.specs.Laws.Returns.{matching-refused, request-refused, given-small, pair-placed, found-writable, found-small, returns-found}
 use Rattle.repair.proofs.pair.repair_in.Statement.{statement}
 use Rattle.repair.proofs.pair.repair_in.Tie as tie
 
@@ -51,7 +52,8 @@ made s = let a = s .args in lent (a .n) (a .mlists) (a .mranks) (a .wlists) (a .
 allowed :
     (c : tie.After-enum-told) →
     let s = start (stable c) in
-    EachBook (s .args .answer) (made s) (λ b. Allowed b (now (s .args .matching)) (now (s .args .weights)) (made s) (stable c .judge .result))
+    EachBook (s .args .answer) (s .args .partial) (made s)
+    (λ b. Allowed b (now (s .args .matching)) (now (s .args .weights)) (made s) (stable c .judge .result))
 allowed c = weights-allowed (stable c .judge .ensures) _ (weighed c .check-weights .ensures) (ap verdictOf (c .enum-told .given .1))
 
 named :
@@ -73,11 +75,20 @@ admitted c =
 asks :
     (c : tie.After-enum-told3) →
     let a = start (stable (paired (asking c))) .args in
-    Asked (a .n) (now (a .request)) (length (now (a .out))) (length (now (a .gains)))
+    Asked (a .n) (now (a .matching)) (now (a .request)) (length (now (a .out))) (length (now (a .gains)))
 asks c = asked _ _ _ _ _ (admitted c)
 
 student : (c : tie.After-enum-told3) → asking c .pair-in .result .man .0 < start (stable (paired (asking c))) .args .n
 student c = omega (arith, asking c .pair-in .ensures .0, asks c .student)
+
+-- and he has a mentor
+mentor :
+    (c : tie.After-enum-told3) →
+    let a = start (stable (paired (asking c))) .args in
+    womanOf (now (a .matching)) (asking c .pair-in .result .man .0) < a .n
+mentor c =
+    let a = start (stable (paired (asking c))) .args in
+    omega (arith, ap (womanOf (now (a .matching))) (asking c .pair-in .ensures .0), asks c .mentor)
 
 returns : tie.Need-returns
 returns c =
@@ -97,7 +108,7 @@ check-pair-requires c κs =
     let t : tie.After-enum-told = search in
     let B = start (stable t) .pre .0 .recorded in
     let A = allowed t _ B in
-    judged-long (A .judged) (A .stable)
+    (judged-usable (A .judged) (A .stable) .few, judged-long (A .judged) (A .stable))
 
 returns-3 : tie.Need-returns-3
 returns-3 c =
@@ -113,7 +124,7 @@ nearest-requires c κs =
     let t = paired (asking w) in
     let B = start (stable t) .pre .0 .recorded in
     let A = allowed t _ B in
-    ((judged-given (A .judged) (A .stable), omega (arith, student w)), allowed-weighed A (start (stable t) .pre .1))
+    ((judged-given (A .judged) (A .stable), student w, pair-placed A (student w) (mentor w)), allowed-weighed A (start (stable t) .pre .1))
 
 answer-requires : tie.Need-answer-requires
 answer-requires c κs =
@@ -122,8 +133,11 @@ answer-requires c κs =
     let t = paired (asking w) in
     let B = start (stable t) .pre .0 .recorded in
     let A = allowed t _ B in (
-      found-writable A (student w) (r .nearest .ensures) (asks w .room-fits),
-      (given-small A, allowed-weighed A (start (stable t) .pre .1) .men, asks w .gains-fit),
+      found-writable A (student w) (mentor w) (r .nearest .ensures) (asks w .room-fits),
+      (
+        (given-small A, found-small A (student w) (mentor w) (r .nearest .ensures)),
+        (allowed-weighed A (start (stable t) .pre .1) .men, asks w .gains-fit),
+      ),
     )
 
 returns-4 : tie.Need-returns-4
@@ -134,7 +148,7 @@ returns-4 c =
     let p = asking w in
     let t = paired p in
     let E = f .answer .ensures in
-    λ b B. returns-found (allowed t b B) (student w) (r .nearest .ensures) (p .pair-in .ensures .0) (admitted w)
+    λ b B. returns-found (allowed t b B) (student w) (mentor w) (r .nearest .ensures) (p .pair-in .ensures .0) (admitted w)
     (E .0) (E .1 .0) (E .1 .1)
 
 pub repair-in-spec : {M : Type 1} → statement M

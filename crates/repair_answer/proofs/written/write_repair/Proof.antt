@@ -1,14 +1,13 @@
--- `write_repair` meets its contract: places that can be written fit a signed byte. Assumes nothing.
+-- `write_repair` meets its contract: the matching is written, and the places gained. Assumes nothing.
 use borrow.Author.Needs.{needs}
-use Rattle.repair_answer.specs.Laws.Small.{writable-small}
 use Rattle.repair_answer.proofs.written.write_repair.Statement.{statement}
 use Rattle.repair_answer.proofs.written.write_repair.Tie as tie
 
 moves-requires : tie.Need-moves-requires
 moves-requires c κs =
     let s : tie.Start = search in
-    let W = s .pre .0 in
-    ((s .pre .1 .0, writable-small W, s .pre .1 .1), (W .few, s .pre .1 .2))
+    let (small, (weighed, room)) = s .pre .1 in
+    ((small .0, small .1, weighed), (s .pre .0 .few, room))
 
 pub write-repair-spec : {M : Type 1} → statement M
 write-repair-spec =
