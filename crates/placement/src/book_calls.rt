@@ -1,8 +1,8 @@
 // Books: the check, the size, the writer, one person's list.
 use book::check_person;
-use book::man_place;
 use book::people_in;
-use book::woman_place;
+use directory::man_place;
+use directory::woman_place;
 use format::Checked;
 use format::Man;
 use format::Woman;
@@ -26,7 +26,7 @@ pub extern "C" fn placement_check_book(book: &[u8]) -> Reply
     verdict_reply(book::check(book), 0, people_in(book))
 }
 
-// How many bytes a book of n students has.
+// How many bytes a book of n students has in which every list has n entries.
 #[no_mangle]
 pub extern "C" fn placement_book_size(n: usize) -> Reply
     ensures { λ r. ⌜ r ≡ replyFor (checkSize n) 0 (size n) ⌝ }
@@ -39,7 +39,7 @@ pub extern "C" fn placement_book_size(n: usize) -> Reply
     verdict_reply(checked, 0, size)
 }
 
-// Writes a book.
+// Writes a book in which every list has n entries.
 #[no_mangle]
 pub extern "C" fn placement_write_book(n: usize, lists: &[u8], out: &mut [u8]) -> Reply
     ensures answer { λ r. ⌜ r ≡ replyFor (checkWrite n (now₀ lists) (length (now₀ out))) 0 (size n) ⌝ }

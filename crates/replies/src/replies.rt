@@ -32,7 +32,7 @@ fn denied_reply(refusal: Refusal) -> Reply
     ensures { λ r. ⌜ r ≡ denied (refusal .number) (refusal .place) (refusal .second) ⌝ }
 {
     Reply {
-        number: book::wide(refusal.number),
+        number: rows::wide(refusal.number),
         place: refusal.place,
         second: refusal.second,
         letter: 0,
@@ -101,7 +101,7 @@ fn letter_reply(letter: u8, distance: usize) -> Reply
         number: 0,
         place: 0,
         second: 0,
-        letter: book::wide(letter),
+        letter: rows::wide(letter),
         value: distance,
     }
 }

@@ -11,7 +11,7 @@ use Rattle.matchings.specs.declared.places.Places.{Places}
 use Rattle.matchings.specs.Matching.{womanOf}
 use Rattle.instances.specs.Usable.{marketIn}
 use Rattle.nearest.specs.Nearest.{farOf, costs}
-use Rattle.sheets.specs.Line.{topLine, pairLines}
+use Rattle.sheets.specs.Line.{topLine, studentLines}
 use Rattle.sheets.specs.Sheet.{letterOf}
 
 -- The letter and the distance of the answer for s, over a market and a place vector, c i being the weight of man i
@@ -23,7 +23,7 @@ distanceIn I c p s = farOf I c p (answerOf I c p s)
 
 -- The sheet of the matching m of n men over a market and its place vector
 unfoldable pub sheetIn : Market → (ℕ → ℕ) → (ℕ → ℕ) → ℕ → List ℕ → List ℕ
-sheetIn I c p n m = topLine n (total I) (maximum n (costs I c p)) ++ pairLines (womanOf m) (letterIn I c p) (distanceIn I c p) n
+sheetIn I c p n m = topLine n (total I) (maximum n (costs I c p)) ++ studentLines (womanOf m) (letterIn I c p) (distanceIn I c p) n
 
 -- over what the check leaves
 abbrev pub sheetOver : Record → (ℕ → ℕ) → Places → List ℕ → List ℕ

@@ -1,8 +1,8 @@
-// The sheet of a stable matching: line one and the lines of the pairs, from the answers for all pairs.
+// The sheet of a stable matching: line one and the lines of the men, from the answers for all pairs.
 use format::Instance;
 use matchings::Places;
 use pair_answers::answer_pairs;
-use sheet_text::put_pairs;
+use sheet_text::put_lines;
 use sheet_text::put_top;
 ghost use mathlib.Core.Path.{_≡_};
 ghost use Prim.Native.Nat.{_≤_};
@@ -49,5 +49,5 @@ pub fn put_answers<'a>(
         &mut distances[..],
     );
     let end = put_top(text, 0, n, all.rotations, all.grade);
-    put_pairs(text, end, n, matching, &letters[..], &distances[..])
+    put_lines(text, end, n, matching, &letters[..], &distances[..])
 }

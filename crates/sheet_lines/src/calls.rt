@@ -1,11 +1,11 @@
 // The two calls for a sheet: where every student counts 1, and with weights.
 use crate::sheet::put_sheet;
 use book::book_end;
-use book::count_after;
 use book::people_in;
-use book::refuse;
 use format::Counted;
 use format::Instance;
+use rows::count_after;
+use rows::refuse;
 use sheets::LONGEST;
 use sheets::WEIGHTED_LONGEST;
 use weights::least;

@@ -86,6 +86,7 @@ fn put_with(
     put_judged(
         answer,
         n,
+        instance.partial,
         mlists,
         mranks,
         wlists,
@@ -102,6 +103,7 @@ fn put_with(
 fn put_judged<'a>(
     answer: Checked,
     n: usize,
+    partial: bool,
     mlists: &'a [u16],
     mranks: &'a [u16],
     wlists: &'a [u16],
@@ -113,11 +115,12 @@ fn put_judged<'a>(
 ) -> usize
     ghost { Record }
     requires { λ R. ⌜ lent n mlists mranks wlists wranks ≡ R ⌝ }
-    requires { λ R. ⌜ FromBook answer R ⌝ }
+    requires { λ R. ⌜ FromBook answer partial R ⌝ }
     requires { λ _. ⌜ WeightsGiven (now matching) (now weights) (now wweights) × Room (now weights) (now text) ⌝ }
-    ensures { λ R r. ⌜ EachBook answer R (λ b. Put (now₀ text) 0 (weightedSheetFor b (now₀ matching) (now₀ weights)) (now₁ text) r) ⌝ }
+    ensures { λ R r. ⌜ EachBook answer partial R (λ b. Put (now₀ text) 0 (weightedSheetFor b (now₀ matching) (now₀ weights))
+        (now₁ text) r) ⌝ }
 {
-    let judged = judge(answer, n, mlists, mranks, wlists, wranks, matching);
+    let judged = judge(answer, n, partial, mlists, mranks, wlists, wranks, matching);
     let stable = judged.checked;
     let checked = check_weights(stable, n, weights);
     let Checked::Fine = checked else {

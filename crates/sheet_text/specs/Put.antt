@@ -11,8 +11,8 @@ use Rattle.format.specs.Format.{largest}
 abbrev pub FiveDigits : ℕ → Type 0
 FiveDigits x = x < 100000
 
--- What the lines of n pairs are made of: so many entries, letters and distances, few pairs, and short distances
-pub record PairsGiven (n : ℕ) (matching letters distances : List ℕ) : Type 0 where
+-- What the lines of n students are made of: so many entries, letters and distances, few students, and short distances
+pub record LinesGiven (n : ℕ) (matching letters distances : List ℕ) : Type 0 where
   pub women : n ≤ length matching
   pub letters-long : n ≤ length letters
   pub distances-long : n ≤ length distances

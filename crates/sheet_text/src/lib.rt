@@ -2,6 +2,6 @@
 mod lines;
 mod text;
 
-pub use lines::put_pairs;
+pub use lines::put_lines;
 pub use lines::put_refused;
 pub use lines::put_top;

@@ -1,20 +1,21 @@
 // The lines of the sheet put into a buffer at a position; each function gives the position past what it put.
 use crate::text::put_byte;
 use crate::text::put_field;
-use book::next_man;
-use book::wide;
-use book::woman_of;
 use format::Checked;
 use format::Man;
+use format::Partner;
 use format::Woman;
-ghost use Prim.Native.Nat.{_+_, _≤_};
+use rows::next_man;
+use rows::partner_of;
+use rows::wide;
+ghost use Prim.Native.Nat.{_+_, _≤_, _<_};
 ghost use lib.ListN.{length};
 ghost use Rattle.laws.specs.Moment.{now₀, now₁, vec₀};
 ghost use Rattle.laws.specs.Values.{vec};
 ghost use Rattle.format.specs.Verdict.{verdictOf};
 ghost use Rattle.format.specs.Format.{entryIn};
-ghost use Rattle.sheets.specs.Line.{topLine, pairLine, pairLines, refusalLine, refusedLine};
-ghost use Rattle.sheet_text.specs.Put.{Put, FiveDigits, PairsGiven};
+ghost use Rattle.sheets.specs.Line.{topLine, pairLine, aloneLine, studentLine, studentLines, refusalLine, refusedLine};
+ghost use Rattle.sheet_text.specs.Put.{Put, FiveDigits, LinesGiven};
 
 // Line one: n, the number of rotations, the grade.
 pub fn put_top(out: &mut [u8], at: usize, n: usize, rotations: usize, grade: usize) -> usize
@@ -41,8 +42,42 @@ fn put_pair(out: &mut [u8], at: usize, man: Man, woman: Woman, letter: u8, dista
     put_field(out, fourth, distance as usize, b'\n')
 }
 
-// The lines of the pairs of n men.
-pub fn put_pairs(
+// The line of a man who is alone: man, `-`, N, 0.
+fn put_alone(out: &mut [u8], at: usize, man: Man) -> usize
+    requires { ⌜ at + length (aloneLine (man .0)) ≤ length (now out) ⌝ }
+    ensures { λ r. ⌜ Put (now₀ out) at (aloneLine (man .0)) (now₁ out) r ⌝ }
+{
+    let m = wide(man.0);
+    let second = put_field(out, at, m, b' ');
+    let dash = put_byte(out, second, b'-');
+    let third = put_byte(out, dash, b' ');
+    let letter = put_byte(out, third, b'N');
+    let fourth = put_byte(out, letter, b' ');
+    put_field(out, fourth, 0, b'\n')
+}
+
+// The line of a man: that of his pair, or that of one who is alone.
+fn put_line(
+    out: &mut [u8],
+    at: usize,
+    matching: &[u8],
+    man: Man,
+    letter: u8,
+    distance: u32,
+) -> usize
+    requires { ⌜ (man .0 < length (now matching)) × FiveDigits distance ×
+        (at + length (studentLine (man .0) (entryIn (now matching) (man .0)) letter distance) ≤ length (now out)) ⌝ }
+    ensures { λ r. ⌜ Put (now₀ out) at (studentLine (man .0) (entryIn (now₀ matching) (man .0)) letter distance) (now₁ out) r ⌝ }
+{
+    let partner = partner_of(matching, man);
+    match partner {
+        Partner::With(woman) => put_pair(out, at, man, woman, letter, distance),
+        Partner::Alone => put_alone(out, at, man),
+    }
+}
+
+// The lines of n men.
+pub fn put_lines(
     out: &mut [u8],
     at: usize,
     n: usize,
@@ -50,18 +85,17 @@ pub fn put_pairs(
     letters: &[u8],
     distances: &[u32],
 ) -> usize
-    requires { ⌜ PairsGiven n (now matching) (now letters) (now distances) ⌝ }
-    requires { ⌜ at + length (pairLines (entryIn (now matching)) (vec (now letters)) (vec (now distances)) n) ≤ length (now out) ⌝ }
-    ensures { λ r. ⌜ Put (now₀ out) at (pairLines (entryIn (now₀ matching)) (vec₀ letters) (vec₀ distances) n) (now₁ out) r ⌝ }
+    requires { ⌜ LinesGiven n (now matching) (now letters) (now distances) ⌝ }
+    requires { ⌜ at + length (studentLines (entryIn (now matching)) (vec (now letters)) (vec (now distances)) n) ≤ length (now out) ⌝ }
+    ensures { λ r. ⌜ Put (now₀ out) at (studentLines (entryIn (now₀ matching)) (vec₀ letters) (vec₀ distances) n) (now₁ out) r ⌝ }
 {
     let mut end = at;
     let mut man = Man(0);
     while wide(man.0) < n {
         let s = wide(man.0);
-        let woman = woman_of(matching, man);
         let letter = letters[s];
         let distance = distances[s];
-        end = put_pair(out, end, man, woman, letter, distance);
+        end = put_line(out, end, matching, man, letter, distance);
         man = next_man(man);
     }
     end

@@ -1,7 +1,10 @@
 -- The lines of the sheet as bytes. Assumes nothing.
 use Prim.Native.Nat.{ℕ, zero, suc}
 use mathlib.Core.List.{List, [], _∷_, _++_}
+use lib.Dec.{eqb}
+use Rattle.laws.specs.Choice.{pick}
 use Rattle.format.specs.Verdict.{Verdict, fine, refused}
+use Rattle.format.specs.Format.{nobody}
 use Rattle.sheets.specs.Decimal.{decimal}
 
 -- The bytes between fields and after them
@@ -25,10 +28,18 @@ topLine n rotations grade = line (decimal n ∷ decimal rotations ∷ decimal gr
 unfoldable pub pairLine : ℕ → ℕ → ℕ → ℕ → List ℕ
 pairLine man woman letter distance = line (decimal man ∷ decimal woman ∷ (letter ∷ []) ∷ decimal distance ∷ [])
 
--- The lines of the students below k, with mentor w s, letter l s and distance d s for student s
-unfoldable pub pairLines : (ℕ → ℕ) → (ℕ → ℕ) → (ℕ → ℕ) → ℕ → List ℕ
-pairLines w l d zero = []
-pairLines w l d (suc k) = pairLines w l d k ++ pairLine k (w k) (l k) (d k)
+-- The line of a student without a mentor: student, `-`, N, 0
+unfoldable pub aloneLine : ℕ → List ℕ
+aloneLine man = line (decimal man ∷ (45 ∷ []) ∷ (78 ∷ []) ∷ decimal 0 ∷ [])
+
+-- The line of a student, by his entry in the matching: that of his pair, or that of a student without a mentor
+unfoldable pub studentLine : ℕ → ℕ → ℕ → ℕ → List ℕ
+studentLine man woman letter distance = pick (eqb woman nobody) (aloneLine man) (pairLine man woman letter distance)
+
+-- The lines of the students below k, with entry w s, letter l s and distance d s for student s
+unfoldable pub studentLines : (ℕ → ℕ) → (ℕ → ℕ) → (ℕ → ℕ) → ℕ → List ℕ
+studentLines w l d zero = []
+studentLines w l d (suc k) = studentLines w l d k ++ studentLine k (w k) (l k) (d k)
 
 -- The word `refused`
 abbrev pub refusedWord : List ℕ

@@ -1,12 +1,32 @@
 -- Laws of the lines of a sheet. Assumes nothing.
 use Prim.Native.Nat.{ℕ, zero, suc, _<_}
 use mathlib.Core.Path.{_≡_, refl}
+use mathlib.Core.List.{[], _∷_, _++_}
 use native.Mathlib.Omega.{arith}
-use Rattle.sheets.specs.Line.{pairLines}
+use borrow.Author.Tests.{eq-eqb, ne-eqb}
+use Rattle.format.specs.Format.{nobody}
+use Rattle.sheets.specs.Decimal.{decimalIn, decimal}
+use Rattle.sheets.specs.Line.{line, pairLine, aloneLine, studentLine, studentLines}
+
+module _ (man : ℕ) {woman : ℕ} (letter distance : ℕ) where
+  -- the line of a student with a mentor is that of his pair
+  pub pair-text : (woman ≡ nobody → ⊥) → studentLine man woman letter distance ≡ pairLine man woman letter distance
+  unfolding studentLine
+  pair-text n = rw (ne-eqb woman nobody n)
+
+  -- and without one that of a student who is alone
+  pub alone-line : woman ≡ nobody → studentLine man woman letter distance ≡ aloneLine man
+  unfolding studentLine
+  alone-line e = rw (eq-eqb woman nobody e)
+
+  -- in bytes
+  pub alone-text : woman ≡ nobody → studentLine man woman letter distance ≡ decimal man ++ (32 ∷ 45 ∷ 32 ∷ 78 ∷ 32 ∷ 48 ∷ 10 ∷ [])
+  unfolding studentLine aloneLine line decimal decimalIn
+  alone-text e = rw (eq-eqb woman nobody e)
 
 -- equal fields, equal lines
-pub lines-same : {w l d v m e : ℕ → ℕ} (k : ℕ) → ((s : ℕ) → s < k → (w s ≡ v s) × (l s ≡ m s) × (d s ≡ e s)) → pairLines w l d k ≡ pairLines v m e k
-unfolding pairLines
+pub lines-same : {w l d v m e : ℕ → ℕ} (k : ℕ) → ((s : ℕ) → s < k → (w s ≡ v s) × (l s ≡ m s) × (d s ≡ e s)) → studentLines w l d k ≡ studentLines v m e k
+unfolding studentLines
 lines-same zero h = refl
 lines-same {w} {l} {d} {v} {m} {e} (suc k) h =
     let u = h k (omega arith) in

@@ -21,16 +21,17 @@ totalDigits = digitsOf (largest * 255)
 abbrev pub topMost : ℕ → ℕ
 topMost e = 3 * digits + e + 3
 
--- The line of a pair: two numbers, a letter and a distance of at most e digits, and a byte after each
-abbrev pub pairMost : ℕ → ℕ
-pairMost e = 2 * digits + e + 5
+-- The line of a student: two numbers, a letter and a distance of at most e digits, and a byte after each. Without a
+-- mentor it has one byte in place of her number and one in place of the distance, and is no longer
+abbrev pub studentMost : ℕ → ℕ
+studentMost e = 2 * digits + e + 5
 
 -- How many bytes a sheet can have, and a weighted sheet
 abbrev pub longest : ℕ
-longest = topMost digits + pairMost digits * largest
+longest = topMost digits + studentMost digits * largest
 
 abbrev pub weightedLongest : ℕ
-weightedLongest = topMost totalDigits + pairMost totalDigits * largest
+weightedLongest = topMost totalDigits + studentMost totalDigits * largest
 
 -- in numbers
 pub longest-in-numbers : longest ≡ 715

@@ -3,7 +3,7 @@ use Prim.Native.Nat.{ℕ}
 use mathlib.Core.List.{List, _++_}
 use lib.ListN.{take, drop}
 use Rattle.format.specs.Verdict.{Verdict, fine, refused}
-use Rattle.format.specs.Format.{people, size}
+use Rattle.format.specs.Format.{people, extent}
 use Rattle.stable_theory.specs.Repairs.Answer.{Answer, U, D, F}
 use Rattle.matchings.specs.Matching.{checkMatching, womanOf}
 use Rattle.matchings.specs.Extreme.{matchingOf}
@@ -11,15 +11,15 @@ use Rattle.rotations.specs.RotationList.{rotationCount}
 use Rattle.repairs.specs.Weights.{weightOf, checkWeighed, movedWeight}
 use Rattle.repairs.specs.Repair.{answerFor}
 use Rattle.repairs.specs.Grade.{gradeOf}
-use Rattle.sheets.specs.Line.{topLine, pairLines, refusalLine}
+use Rattle.sheets.specs.Line.{topLine, studentLines, refusalLine}
 
--- The book: as many bytes as the size says that its n gives
+-- The book: as many bytes as its size, which edition 1 has by n and edition 2 by the end of the last list
 abbrev pub bookPart : List ℕ → List ℕ
-bookPart input = take (size (people input)) input
+bookPart input = take (extent input) input
 
 -- The matching: the bytes past the book's size
 abbrev pub matchingPart : List ℕ → List ℕ
-matchingPart input = drop (size (people input)) input
+matchingPart input = drop (extent input) input
 
 -- In a weighted sheet the first n of these are the matching, and all that follow are weights
 abbrev pub weighedPart : List ℕ → List ℕ
@@ -45,7 +45,7 @@ distanceOf b c m F = 0
 unfoldable pub answers : List ℕ → (ℕ → ℕ) → List ℕ → List ℕ
 answers b c m =
     topLine (people b) (rotationCount b) (gradeOf b c m)
-    ++ pairLines (womanOf m) (λ s. letterOf (answerFor b c m s)) (λ s. distanceOf b c m (answerFor b c m s)) (people b)
+    ++ studentLines (womanOf m) (λ s. letterOf (answerFor b c m s)) (λ s. distanceOf b c m (answerFor b c m s)) (people b)
 
 -- It goes on to repairs only where the check refused nothing; otherwise it is the line of the refusal
 abbrev pub sheetAfter : Verdict → List ℕ → (ℕ → ℕ) → List ℕ → List ℕ

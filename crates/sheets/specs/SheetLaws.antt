@@ -1,14 +1,16 @@
--- What a sheet says: each line is demand 3's answer for its pair, and the grade is demand 3's grade. The words of the
--- promises are those of crate repairs, over all stable matchings of the book. Assumes nothing.
+-- What a sheet says: the line of each pair is demand 3's answer for it, that of a student without a mentor says so, and
+-- the grade is demand 3's grade. The words of the promises are those of crate repairs, over all stable matchings of the
+-- book. Assumes nothing.
 use Prim.Native.Nat.{ℕ, _≤_, _<_}
 use mathlib.Core.Path.{_≡_, refl, _∙_, ap}
-use mathlib.Core.List.{List, [], _++_}
+use mathlib.Core.List.{List, [], _∷_, _++_}
 use mathlib.Core.Logic.{_↔_}
+use native.Mathlib.Omega.{arith}
 use lib.ListN.{take}
 use Rattle.format.specs.Verdict.{Verdict, fine, refused}
 use Rattle.format.specs.Laws.Verdict.{all-fine}
 use Rattle.format.specs.Outcome.{gives, filled}
-use Rattle.format.specs.Format.{people}
+use Rattle.format.specs.Format.{people, nobody}
 use Rattle.stable_theory.specs.Repairs.Answer.{Answer, U, D, F}
 use Rattle.stable_theory.specs.Repairs.AnswerLaws.{answer-of}
 use Rattle.stable_theory.specs.Least.Optimal.{proposer-optimal}
@@ -16,17 +18,21 @@ use Rattle.stable_theory.specs.Rotations.Numbering.{rotation}
 use Rattle.stable_theory.specs.Rotations.Canonical.{Canonical, rotations-canonical}
 use Rattle.matchings.specs.BookMarket.{market, market-proper}
 use Rattle.matchings.specs.Matching.{checkMatching, StableIn, womanOf}
+use Rattle.matchings.specs.Demand2.{same-students-alone}
+use Rattle.matchings.specs.Laws.Entries.{nobody-most}
 use Rattle.matchings.specs.Laws.StableCheck.{fine-stable}
 use Rattle.matchings.specs.Laws.StableVector.{vector-stable}
 use Rattle.rotations.specs.RotationList.{rotationCount}
 use Rattle.repairs.specs.Weights.{weightOf, checkWeighed}
 use Rattle.repairs.specs.Repair.{RepairAnswer, up, down, fixed, answerFor, withDistance, entriesFor, matchingFor}
 use Rattle.repairs.specs.Grade.{gradeOf}
-use Rattle.repairs.specs.Promise.{InEvery, Takes, Lightest, Covers}
+use Rattle.repairs.specs.Promise.{PairIn, InEvery, Takes, Lightest, Covers}
 use Rattle.repairs.specs.Laws.RepairBytes.{holds}
 use Rattle.repairs.specs.Laws.AnswerBytes.{reply-fixed, reply-takes}
 use Rattle.repairs.specs.Laws.GradeBytes.{grade-covers, grade-least}
-use Rattle.sheets.specs.Line.{topLine, pairLines, refusalLine}
+use Rattle.sheets.specs.Decimal.{decimal}
+use Rattle.sheets.specs.Line.{topLine, pairLine, studentLine, studentLines, refusalLine}
+use Rattle.sheets.specs.LineLaws.{pair-text, alone-text}
 use Rattle.sheets.specs.Sheet.{bookPart, matchingPart, weighedPart, weightsPart, letterOf, distanceOf, answers, sheetAfter, sheetOf, weightedSheetOf}
 
 -- A letter and a distance say an answer: U or D with the distance of the repair, F with 0
@@ -35,25 +41,33 @@ pub data Says : ℕ → ℕ → RepairAnswer → Type 0 where
   says-down : (d : ℕ) → Says 68 d (down d)
   says-fixed : Says 70 0 fixed
 
--- The letter and the distance of a line of the matching m of the book b, for the pair of student s, c i being the
--- weight of student i: they say 'fixed' exactly where every stable matching holds the pair, and otherwise the repair
--- that document 01 takes, and every stable matching without the pair moves students that weigh at least as much
+-- The line of the pair of student s in the matching m of the book b, c i being the weight of student i: its letter and
+-- distance say 'fixed' exactly where every stable matching holds the pair, and otherwise the repair that document 01
+-- takes, and every stable matching without the pair moves students that weigh at least as much
 pub record RightLine (b : List ℕ) (c : ℕ → ℕ) (m : List ℕ) (s letter distance : ℕ) : Type 0 where
+  pub text : studentLine s (womanOf m s) letter distance ≡ pairLine s (womanOf m s) letter distance
   pub answer : RepairAnswer
   pub says : Says letter distance answer
   pub fixed-exactly : answer ≡ fixed ↔ InEvery b m s
   pub taken : (InEvery b m s → ⊥) → (r : List ℕ) × Takes b c m s r (gives answer) × Lightest b c m s r
+
+-- The line of student s without a mentor in m: his number and ` - N 0`; he has no mentor in any stable matching
+pub record AloneLine (b m : List ℕ) (s letter distance : ℕ) : Type 0 where
+  pub text : studentLine s (womanOf m s) letter distance ≡ decimal s ++ (32 ∷ 45 ∷ 32 ∷ 78 ∷ 32 ∷ 48 ∷ 10 ∷ [])
+  pub never : (k : List ℕ) → checkMatching b k ≡ fine → womanOf k s ≡ nobody
 
 -- A sheet of n students with the number of rotations, the grade, and a letter and a distance for each
 pub record RightSheet (b : List ℕ) (c : ℕ → ℕ) (m : List ℕ) (sheet : List ℕ) : Type 0 where
   pub grade : ℕ
   pub letter : ℕ → ℕ
   pub distance : ℕ → ℕ
-  pub text : sheet ≡ topLine (people b) (rotationCount b) grade ++ pairLines (womanOf m) letter distance (people b)
+  pub text : sheet ≡ topLine (people b) (rotationCount b) grade ++ studentLines (womanOf m) letter distance (people b)
   -- the rotations are those of document 01's list
   pub numbered : Canonical (market b) (proposer-optimal (market b)) (rotationCount b) (rotation (market b))
-  -- each line is right
-  pub lines : {s : ℕ} → s < people b → RightLine b c m s (letter s) (distance s)
+  -- the line of each pair is right
+  pub pairs : {s : ℕ} → PairIn b m s → RightLine b c m s (letter s) (distance s)
+  -- and that of each student without a mentor says so
+  pub alone : {s : ℕ} → s < people b → womanOf m s ≡ nobody → AloneLine b m s (letter s) (distance s)
   -- the grade is the least number such that for each pair that is not fixed some stable matching without it moves
   -- others that weigh at most so much
   pub covers : Covers b c m grade
@@ -65,16 +79,29 @@ answer-says b c m (U v) = says-up _
 answer-says b c m (D v) = says-down _
 answer-says b c m F = says-fixed
 
--- so each line is right
-line-right : {b m : List ℕ} → StableIn b m → (c : ℕ → ℕ) {s : ℕ} → s < people b → RightLine b c m s (letterOf (answerFor b c m s)) (distanceOf b c m (answerFor b c m s))
-line-right {b} {m} S c {s} u =
-    let A = answer-of (market-proper (S .matching .formed)) c (vector-stable S) (holds S u) in
+-- so the line of a pair is right
+pair-right :
+    {b m : List ℕ} → StableIn b m → (c : ℕ → ℕ) {s : ℕ} → PairIn b m s →
+    RightLine b c m s (letterOf (answerFor b c m s)) (distanceOf b c m (answerFor b c m s))
+pair-right {b} {m} S c {s} P =
+    let W = S .matching .formed in
+    let A = answer-of (market-proper W) c (vector-stable S) (holds S P) in
     let a = answerFor b c m s in
     record {
+      text = pair-text s _ _ (λ e. omega (arith, nobody-most W, P .mentor));
       answer = withDistance b c m a;
       says = answer-says b c m a;
-      fixed-exactly = reply-fixed S u c A;
-      taken = λ n. (take (people b) (filled fine (entriesFor b a) (matchingFor b a) []), reply-takes S u c [] A n .0, reply-takes S u c [] A n .1);
+      fixed-exactly = reply-fixed S P c A;
+      taken = λ n. (take (people b) (filled fine (entriesFor b a) (matchingFor b a) []), reply-takes S P c [] A n .0, reply-takes S P c [] A n .1);
+    }
+
+-- and so is that of a student without a mentor
+alone-right :
+    {b m : List ℕ} → StableIn b m → {s : ℕ} → s < people b → womanOf m s ≡ nobody → (letter distance : ℕ) → AloneLine b m s letter distance
+alone-right {b} S {s} u e letter distance =
+    record {
+      text = alone-text s letter distance e;
+      never = λ k f. same-students-alone S (fine-stable b k .0 f) u .0 e;
     }
 
 -- the lines of the answers are those of these letters and distances
@@ -82,7 +109,7 @@ answers-lines :
     (b : List ℕ) (c : ℕ → ℕ) (m : List ℕ) →
     answers b c m
     ≡ topLine (people b) (rotationCount b) (gradeOf b c m)
-    ++ pairLines (womanOf m) (λ s. letterOf (answerFor b c m s)) (λ s. distanceOf b c m (answerFor b c m s)) (people b)
+    ++ studentLines (womanOf m) (λ s. letterOf (answerFor b c m s)) (λ s. distanceOf b c m (answerFor b c m s)) (people b)
 unfolding answers
 answers-lines b c m = refl
 
@@ -96,7 +123,8 @@ right b c m f e =
       distance = λ s. distanceOf b c m (answerFor b c m s);
       text = ap (λ (v : Verdict). sheetAfter v b c m) e ∙ answers-lines b c m;
       numbered = rotations-canonical (market-proper (S .matching .formed));
-      lines = λ u. line-right S c u;
+      pairs = λ P. pair-right S c P;
+      alone = λ u e. alone-right S u e _ _;
       covers = grade-covers S c;
       least = grade-least S c;
     }

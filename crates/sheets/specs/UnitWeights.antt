@@ -3,10 +3,11 @@ use Prim.Native.Nat.{ℕ, _+_, _<_}
 use mathlib.Core.Path.{_≡_, refl, sym, _∙_, ap, ap₂}
 use mathlib.Core.List.{List, _++_}
 use native.Mathlib.Omega.{arith}
-use lib.ListN.{length, take, drop, replicate, length-drop, List·getD-append}
-use lib.Seq.{take-at, drop-append-seam, take-append-le, drop-append-le, getD-take}
+use lib.ListN.{length, take, drop, replicate, length-drop}
+use lib.Seq.{take-at, drop-append-seam, take-append-le, drop-append-le}
 use Rattle.format.specs.Verdict.{Verdict, fine}
-use Rattle.format.specs.Format.{largest, people, size}
+use Rattle.format.specs.Format.{largest, people, extent}
+use Rattle.format.specs.Laws.Extent.{people-append, extent-append, people-cut}
 use Rattle.stable_theory.specs.Repairs.Answer.{Answer, U, D, F}
 use Rattle.matchings.specs.Matching.{checkMatching}
 use Rattle.matchings.specs.Extreme.{matchingOf}
@@ -58,30 +59,31 @@ pub ones-sheet : (b m : List ℕ) → weightedSheetFor b m (replicate (people b)
 ones-sheet b m = unit-sheet b m (replicate (people b) 1) (λ f. unit-ones (people b))
 
 -- of what is read: a book's bytes and n bytes for a matching, with n times 1 after them
-module _ (input : List ℕ) (whole : length input ≡ size (people input) + people input) where
+module _ (input : List ℕ) (whole : length input ≡ extent input + people input) where
   abbrev n : ℕ
   n = people input
 
   abbrev ones : List ℕ
   ones = replicate n 1
 
-  -- byte 1 is among them
   same-people : people (input ++ ones) ≡ n
-  unfolding people size
-  same-people = List·getD-append input ones 0 1 (omega arith)
+  same-people = people-append input ones (omega arith)
+
+  same-extent : extent (input ++ ones) ≡ extent input
+  same-extent = extent-append input ones (omega arith)
 
   book-same : bookPart (input ++ ones) ≡ bookPart input
   book-same =
-      ap (λ (k : ℕ). take (size k) (input ++ ones)) same-people
-      ∙ take-append-le (size n) input ones (omega arith)
+      ap (λ (k : ℕ). take k (input ++ ones)) same-extent
+      ∙ take-append-le (extent input) input ones (omega arith)
 
   rest-same : matchingPart (input ++ ones) ≡ matchingPart input ++ ones
   rest-same =
-      ap (λ (k : ℕ). drop (size k) (input ++ ones)) same-people
-      ∙ drop-append-le (size n) input ones (omega arith)
+      ap (λ (k : ℕ). drop k (input ++ ones)) same-extent
+      ∙ drop-append-le (extent input) input ones (omega arith)
 
   long : length (matchingPart input) ≡ n
-  long = omega (arith, length-drop (size n) input)
+  long = omega (arith, length-drop (extent input) input)
 
   matching-same : weighedPart (input ++ ones) ≡ matchingPart input
   matching-same = ap₂ (λ (k : ℕ) (l : List ℕ). take k l) same-people rest-same ∙ take-at (matchingPart input) ones n long
@@ -91,8 +93,7 @@ module _ (input : List ℕ) (whole : length input ≡ size (people input) + peop
       ap₂ (λ (k : ℕ) (l : List ℕ). drop k l) (same-people ∙ sym long) rest-same ∙ drop-append-seam (matchingPart input) ones
 
   book-people : people (bookPart input) ≡ n
-  unfolding people size
-  book-people = getD-take (size n) input 1 0 (omega arith)
+  book-people = people-cut input
 
   pub ones-input : weightedSheetOf (input ++ ones) ≡ sheetOf input
   unfolding sheetOf weightedSheetOf

@@ -1,6 +1,6 @@
--- The cases that document 01 marks P, proved of the definitions that the contracts cite: one table of what is
--- computed and what document 01 says, and one computed fact that covers its rows. Books and matchings are the bytes
--- of document 01. Assumes nothing.
+-- The cases that document 01 marks P, and some of W-203, proved of the definitions that the contracts cite: one table
+-- of what is computed and what the papers say, and one computed fact that covers its rows. Books and matchings are the
+-- bytes of document 01. Assumes nothing.
 use Prim.Native.Nat.{ℕ, _<_}
 use mathlib.Core.Path.{_≡_, refl}
 use mathlib.Core.Bool.{true}
@@ -8,9 +8,9 @@ use mathlib.Core.List.{List, [], _∷_, _++_}
 use lib.ListN.{length, getD}
 use Rattle.laws.specs.Cycle.{returns, period, backAfter}
 use Rattle.format.specs.Verdict.{Verdict, fine, refused}
-use Rattle.format.specs.Format.{people, offset, listLength, due, entry, entryIn, markIn, size}
-use Rattle.format.specs.Lists.{firstFaulty, firstFaultyList, checkLists}
-use Rattle.format.specs.Check.{firstWrongPair, checkBook}
+use Rattle.format.specs.Format.{edition, partial, people, offset, listLength, due, entry, place, onList, entryIn, markIn, size, extent}
+use Rattle.format.specs.Lists.{firstFaulty, firstClash, firstFaultyList, checkLists}
+use Rattle.format.specs.Check.{checkOutline, allowedLength, firstWrongPair, oneSided, checkReturned, checkHeader, checkDirectory, checkFrame, checkBook}
 use Rattle.format.specs.Write.{directory, bookOf}
 use Rattle.stable_theory.specs.Stable.Holder.{mirror, holder, holding}
 use Rattle.stable_theory.specs.Least.Settle.{least, settle, onward, rejected, outranks}
@@ -23,12 +23,12 @@ use Rattle.stable_theory.specs.Rotations.Rotation.{eliminate, pairOf, passed}
 use Rattle.stable_theory.specs.Rotations.Numbering.{preferred, willing, nextPlace, follow, followers, lowest, rotationAt, rotationsFrom, rotations, rotation}
 use Rattle.stable_theory.specs.Rotations.Subset.{after, vectorOf, required, precedes, closed}
 use Rattle.matchings.specs.BookMarket.{market}
-use Rattle.matchings.specs.Matching.{blocks, bestBlocking, lowestBlocking, checkNames, checkStable, checkMatching}
+use Rattle.matchings.specs.Matching.{blocks, bestBlocking, lowestBlocking, checkListed, checkNames, checkStable, checkMatching}
 use Rattle.matchings.specs.Extreme.{manOptimal, womanOptimal}
 use Rattle.rotations.specs.RotationList.{rotationBytes}
 use Rattle.rotations.specs.Sets.{badMarks, checkSet, setMatching}
 use Rattle.sheets.specs.Decimal.{decimalIn, decimal}
-use Rattle.sheets.specs.Line.{line, topLine, pairLine, pairLines, refusalLine}
+use Rattle.sheets.specs.Line.{line, topLine, pairLine, aloneLine, studentLine, studentLines, refusalLine}
 use Rattle.sheets.specs.Sheet.{answers, sheetOf}
 use Rattle.worked.specs.Agree.{Row, agree, agree-each}
 
@@ -48,6 +48,15 @@ alike =
     18 ∷ 0 ∷ 2 ∷ 0 ∷ 20 ∷ 0 ∷ 2 ∷ 0 ∷ 22 ∷ 0 ∷ 2 ∷ 0 ∷ 24 ∷ 0 ∷ 2 ∷ 0 ∷
     0 ∷ 1 ∷ 0 ∷ 1 ∷
     0 ∷ 1 ∷ 0 ∷ 1 ∷
+    []
+
+-- A book of edition 2: students 0 and 0, mentors 0 1 and none
+abbrev pub short : List ℕ
+short =
+    2 ∷ 2 ∷
+    18 ∷ 0 ∷ 1 ∷ 0 ∷ 19 ∷ 0 ∷ 1 ∷ 0 ∷ 20 ∷ 0 ∷ 2 ∷ 0 ∷ 22 ∷ 0 ∷ 0 ∷ 0 ∷
+    0 ∷ 0 ∷
+    0 ∷ 1 ∷
     []
 
 -- Table 1 of document 000: edition and n, the directory, the lists of the students and those of the mentors
@@ -77,7 +86,7 @@ abbrev pub numbers : Verdict → List ℕ
 numbers fine = []
 numbers (refused number place second) = number ∷ place ∷ second ∷ []
 
--- Each row: what is computed, and what document 01 says
+-- Each row: what is computed, and what the papers say
 abbrev pub table : List Row
 table =
     -- n = 0, empty matching: sheet `0 0 0`
@@ -105,14 +114,24 @@ table =
     (numbers (checkSet table1 (0 ∷ 0 ∷ 1 ∷ 0 ∷ 0 ∷ 0 ∷ []) 7), 16 ∷ 0 ∷ 0 ∷ []) ∷
     -- the sheet of section 'The sheet'
     (sheetOf (table1 ++ (4 ∷ 5 ∷ 6 ∷ 3 ∷ 1 ∷ 2 ∷ 0 ∷ [])), 55 ∷ 32 ∷ 54 ∷ 32 ∷ 51 ∷ 10 ∷ 48 ∷ 32 ∷ 52 ∷ 32 ∷ 85 ∷ 32 ∷ 50 ∷ 10 ∷ 49 ∷ 32 ∷ 53 ∷ 32 ∷ 85 ∷ 32 ∷ 52 ∷ 10 ∷ 50 ∷ 32 ∷ 54 ∷ 32 ∷ 68 ∷ 32 ∷ 50 ∷ 10 ∷ 51 ∷ 32 ∷ 51 ∷ 32 ∷ 68 ∷ 32 ∷ 52 ∷ 10 ∷ 52 ∷ 32 ∷ 49 ∷ 32 ∷ 68 ∷ 32 ∷ 50 ∷ 10 ∷ 53 ∷ 32 ∷ 50 ∷ 32 ∷ 85 ∷ 32 ∷ 50 ∷ 10 ∷ 54 ∷ 32 ∷ 48 ∷ 32 ∷ 68 ∷ 32 ∷ 50 ∷ 10 ∷ []) ∷
+    -- W-203, student 1 has no mentor: `2 0 0`, `0 0 F 0` and `1 - N 0`
+    (sheetOf (short ++ (0 ∷ 255 ∷ [])), 50 ∷ 32 ∷ 48 ∷ 32 ∷ 48 ∷ 10 ∷ 48 ∷ 32 ∷ 48 ∷ 32 ∷ 70 ∷ 32 ∷ 48 ∷ 10 ∷ 49 ∷ 32 ∷ 45 ∷ 32 ∷ 78 ∷ 32 ∷ 48 ∷ 10 ∷ []) ∷
+    -- student 0 has none, and mentor 0 prefers him: refused 10, student 0, mentor 0
+    (numbers (checkMatching short (255 ∷ 0 ∷ [])), 10 ∷ 0 ∷ 0 ∷ []) ∷
+    -- student 1 and mentor 1 do not list each other: refused 19
+    (numbers (checkMatching short (0 ∷ 1 ∷ [])), 19 ∷ 0 ∷ 0 ∷ []) ∷
+    -- in edition 1 the byte 255 is a clash: refused 9
+    (numbers (checkMatching alike (0 ∷ 255 ∷ [])), 9 ∷ 1 ∷ 0 ∷ []) ∷
     []
 
--- What is computed is what document 01 says, in every row
+-- What is computed is what the papers say, in every row
 pub worked : agree table ≡ true
-unfolding decimalIn decimal line topLine pairLine pairLines refusalLine answers sheetOf people offset listLength due entry entryIn markIn size firstFaulty firstFaultyList checkLists firstWrongPair checkBook
+unfolding decimalIn decimal line topLine pairLine aloneLine studentLine studentLines refusalLine answers sheetOf
+    edition partial people offset listLength due entry place onList entryIn markIn size extent firstFaulty firstClash firstFaultyList checkLists
+    checkOutline allowedLength firstWrongPair oneSided checkReturned checkHeader checkDirectory checkFrame checkBook
     mirror holder holding least settle onward rejected outranks proposer-optimal receiver-optimal isStable unheld reaching places partners down up moved weight answerOf nearer cost robustness
     eliminate pairOf passed preferred willing nextPlace follow followers lowest rotationAt rotationsFrom rotations after vectorOf required precedes closed returns period backAfter
-    market blocks bestBlocking lowestBlocking checkNames checkStable checkMatching manOptimal womanOptimal badMarks checkSet setMatching
+    market blocks bestBlocking lowestBlocking checkListed checkNames checkStable checkMatching manOptimal womanOptimal badMarks checkSet setMatching
 worked = refl
 
 -- so in row i

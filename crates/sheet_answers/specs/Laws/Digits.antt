@@ -12,14 +12,13 @@ use Rattle.format.specs.Format.{largest}
 use Rattle.format.specs.Record.{Record}
 use Rattle.stable_theory.specs.Repairs.Answer.{answerOf}
 use Rattle.stable_theory.specs.Rotations.Numbering.{total}
-use Rattle.stable_theory.specs.Rotations.Canonical.{rotations-complete}
-use Rattle.stable_theory.specs.Rotations.RotationCount.{rotations-most-complete}
 use Rattle.matchings.specs.declared.places.Places.{Places}
 use Rattle.instances.specs.Usable.{Usable, marketIn}
+use Rattle.rotations.specs.Largest.{total-within}
 use Rattle.nearest.specs.Nearest.{costs}
 use Rattle.pair_answers.specs.declared.answers.Summary.{Summary}
 use Rattle.pair_answers.specs.Answered.{PairsAnswered}
-use Rattle.sheet_text.specs.Put.{FiveDigits, PairsGiven}
+use Rattle.sheet_text.specs.Put.{FiveDigits, LinesGiven}
 use Rattle.sheet_answers.specs.Laws.Short.{far-most}
 
 module _ {R : Record} (U : Usable R) where
@@ -29,9 +28,8 @@ module _ {R : Record} (U : Usable R) where
 
   pub rotations-short : {rotations : ℕ} → rotations ≡ total (marketIn R) → FiveDigits rotations
   rotations-short e =
-      let M = U .men .proper in
       let less : R .n - 1 ≤ largest - 1 = omega (arith, U .few) in
-      omega (arith, rotations-most-complete M (rotations-complete M) (U .complete), mul-le-mul (U .few) less)
+      omega (arith, total-within (U .men .proper) (λ i u. U .men .proposers .short u), mul-le-mul (U .few) less)
 
   module _ {c : ℕ → ℕ} (light : (i : ℕ) → i < R .n → c i ≤ 255) {p : Places} {letters distances : List ℕ} {r : Summary} (A : PairsAnswered R c p letters distances r) where
     -- the grade is at most 255 for each man
@@ -47,8 +45,8 @@ module _ {R : Record} (U : Usable R) where
         )
 
     -- and so are the distances
-    pub pairs-given : {m : List ℕ} → R .n ≤ length m → PairsGiven (R .n) m letters distances
-    pairs-given h =
+    pub lines-given : {m : List ℕ} → R .n ≤ length m → LinesGiven (R .n) m letters distances
+    lines-given h =
         record {
           women = h;
           letters-long = A .letters-long;

@@ -5,6 +5,7 @@ use mathlib.Core.Path.{_≡_, refl, sym, _∙_, ap, ap₂}
 use mathlib.Core.List.{List, _++_}
 use native.Mathlib.Omega.{arith}
 use lib.ListN.{length, length-append}
+use Rattle.laws.specs.Choice.{split}
 use Rattle.laws.specs.Values.{vec}
 use Rattle.format.specs.Verdict.{fine}
 use Rattle.format.specs.Format.{people}
@@ -24,11 +25,13 @@ use Rattle.stability.specs.Laws.Judged.{BookJudged}
 use Rattle.instances.specs.Usable.{marketIn}
 use Rattle.repairs.specs.Repair.{answerFor}
 use Rattle.repairs.specs.Grade.{gradeOf}
+use Rattle.repairs.specs.Promise.{PairIn}
 use Rattle.repairs.specs.Laws.Bytes.{moved-vector}
 use Rattle.repairs.specs.Laws.RepairBytes.{holds}
+use Rattle.repairs.specs.Laws.AnswerBytes.{alone-answer}
 use Rattle.nearest.specs.Nearest.{farOf}
 use Rattle.nearest.specs.Laws.Book.{judged-formed, judged-number, judged-alike, judged-usable, answer-book, far-book, grade-book}
-use Rattle.sheets.specs.Line.{topLine, pairLines}
+use Rattle.sheets.specs.Line.{topLine, studentLines}
 use Rattle.sheets.specs.LineLaws.{lines-same}
 use Rattle.sheets.specs.Sheet.{letterOf, distanceOf, answers}
 use Rattle.pair_answers.specs.declared.answers.Summary.{Summary}
@@ -47,11 +50,11 @@ module _ {R : Record} {c : ℕ → ℕ} {p : Places} {letters distances : List �
   abbrev top : List ℕ
   top = topLine (R .n) (r .rotations) (r .grade)
 
-  abbrev pairs : List ℕ
-  pairs = pairLines (womanOf m) (vec letters) (vec distances) (R .n)
+  abbrev lines : List ℕ
+  lines = studentLines (womanOf m) (vec letters) (vec distances) (R .n)
 
   -- the lines with the letters and distances that were collected are the sheet
-  sheet-in : top ++ pairs ≡ sheetOver R c p m
+  sheet-in : top ++ lines ≡ sheetOver R c p m
   unfolding sheetIn
   sheet-in =
       let I = marketIn R in
@@ -61,18 +64,18 @@ module _ {R : Record} {c : ℕ → ℕ} {p : Places} {letters distances : List �
       (λ s u. let B = A .at u in (refl, B .letter ∙ letter-byte (answerOf I c v s), B .distance)))
 
   -- there is room for each part of it
-  room : length top + length pairs ≡ length (sheetOver R c p m)
-  room = sym (length-append top pairs) ∙ ap length sheet-in
+  room : length top + length lines ≡ length (sheetOver R c p m)
+  room = sym (length-append top lines) ∙ ap length sheet-in
 
   pub top-fits : {k : ℕ} → length (sheetOver R c p m) ≤ k → 0 + length top ≤ k
   top-fits h = omega (arith, room)
 
   module _ {text first : List ℕ} {end : ℕ} (P : Put text 0 top first end) where
-    pub pairs-fit : length (sheetOver R c p m) ≤ length text → end + length pairs ≤ length first
-    pairs-fit h = omega (arith, room, P .next, put-long P (top-fits h))
+    pub lines-fit : length (sheetOver R c p m) ≤ length text → end + length lines ≤ length first
+    lines-fit h = omega (arith, room, P .next, put-long P (top-fits h))
 
     -- and the two parts put one after the other are the whole
-    pub sheet-put : {last : List ℕ} {after : ℕ} → Put first end pairs last after → Put text 0 (sheetOver R c p m) last after
+    pub sheet-put : {last : List ℕ} {after : ℕ} → Put first end lines last after → Put text 0 (sheetOver R c p m) last after
     sheet-put Q = rw (← sheet-in) (put-on P (omega arith) Q)
 
 -- the same answer has the same letter
@@ -100,12 +103,17 @@ module _ {b m : List ℕ} {R : Record} {j : Judged} (J : BookJudged b m R j) (f 
   letter-book : {s : ℕ} → s < R .n → letterIn I c p s ≡ letterOf (answerFor b c m s)
   letter-book u = letter-same (answer-book J f c u)
 
+  -- where he is placed by his answer, and otherwise both are 0
   distance-book : {s : ℕ} → s < R .n → distanceIn I c p s ≡ distanceOf b c m (answerFor b c m s)
   distance-book {s} u =
       let S = fine-stable b m .0 f in
       let v : s < people b = omega (arith, judged-number J f) in
-      let A = answer-of (market-proper (S .matching .formed)) c (vector-stable S) (holds S v) in
-      far-book J f c u ∙ sym (distance-far S c A)
+      far-book J f c u
+      ∙ split (people b) (womanOf m s)
+      (λ l. rw (alone-answer S c v l) refl)
+      (λ l.
+      let P : PairIn b m s = record { student = v; mentor = l } in
+      sym (distance-far S c (answer-of (market-proper (S .matching .formed)) c (vector-stable S) (holds S P))))
 
   -- the record has as many rotations as the book
   totals : total I ≡ total (market b)

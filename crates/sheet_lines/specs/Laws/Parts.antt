@@ -9,7 +9,7 @@ use Rattle.format.specs.declared.verdict.Checked.{Checked}
 use Rattle.format.specs.declared.verdict.Checked.the-variants.{Refused}
 use Rattle.format.specs.declared.verdict.Refusal.{Refusal}
 use Rattle.format.specs.Verdict.{Verdict, fine, verdictOf}
-use Rattle.format.specs.Format.{people, size}
+use Rattle.format.specs.Format.{people, extent}
 use Rattle.repairs.specs.Weights.{weightOf, checkWeighed}
 use Rattle.sheets.specs.Line.{refusedLine}
 use Rattle.sheets.specs.Sheet.{bookPart, matchingPart, weighedPart, weightsPart, answers, sheetAfter, sheetFor, weightedSheetFor, sheetOf, weightedSheetOf}
@@ -18,18 +18,18 @@ use Rattle.sheets.specs.Sheet.{bookPart, matchingPart, weighedPart, weightsPart
 abbrev pub rest : List ℕ → ℕ → List ℕ
 rest input end = take (length input - end) (drop end input)
 
-module _ (input : List ℕ) {end : ℕ} (e : end ≡ min (size (people input)) (length input)) where
+module _ (input : List ℕ) {end : ℕ} (e : end ≡ min (extent input) (length input)) where
   -- the end is within what was read
   pub end-within : end ≤ length input
   end-within = omega arith
 
   -- the part before it is the book
   book-part : take end input ≡ bookPart input
-  book-part = ap (λ (k : ℕ). take k input) e ∙ take-most input (size (people input))
+  book-part = ap (λ (k : ℕ). take k input) e ∙ take-most input (extent input)
 
   -- and the rest the matching
   matching-part : rest input end ≡ matchingPart input
-  matching-part = take-rest input end ∙ ap (λ (k : ℕ). drop k input) e ∙ drop-most input (size (people input))
+  matching-part = take-rest input end ∙ ap (λ (k : ℕ). drop k input) e ∙ drop-most input (extent input)
 
   -- so the sheet is that of the two parts
   pub sheet-parts : sheetOf input ≡ sheetFor (take end input) (rest input end)

@@ -7,7 +7,7 @@ use lib.ListN.{length, set, take, drop, length-append}
 use lib.Seq.{sets-eq, take-length, take-at}
 use Rattle.laws.specs.Overwrite.{overwritten, overwritten-none, overwritten-on, length-overwritten}
 use Rattle.sheets.specs.Decimal.{digit, decimal}
-use Rattle.sheets.specs.Line.{space, lineFeed, refusedWord, line, topLine, pairLine, refusalLine}
+use Rattle.sheets.specs.Line.{space, lineFeed, refusedWord, line, topLine, pairLine, aloneLine, refusalLine}
 use Rattle.sheet_text.specs.Put.{Put}
 use Rattle.sheet_text.specs.Laws.Decimal.{decimal-digit, decimal-more, decimal-hundreds}
 
@@ -74,6 +74,14 @@ pub put-pair : {l : List ℕ} {i s w x y : ℕ} → x ≡ s → y ≡ w → {t :
     → Put l i (pairLine s w t d) f q
 unfolding pairLine line
 put-pair man woman d h P Q R S T = rw (← man, ← woman) (simp append-assoc at (put-on (put-on (put-on (put-on P h Q) h R) h S) h T))
+
+-- the line of a student without a mentor, whose number is s
+pub put-alone : {l : List ℕ} {i s x : ℕ} → x ≡ s → {a b c d e f : List ℕ} {j k m o q r : ℕ} → i ≤ length l
+    → Put l i (numberThen x space) a j → Put a j (45 ∷ []) b k → Put b k (space ∷ []) c m → Put c m (78 ∷ []) d o → Put d o (space ∷ []) e q
+    → Put e q (numberThen 0 lineFeed) f r → Put l i (aloneLine s) f r
+unfolding aloneLine line
+put-alone man h P Q R S T U =
+    rw (← man) (simp append-assoc at (put-on (put-on (put-on (put-on (put-on P h Q) h R) h S) h T) h U))
 
 -- the line of a refusal
 pub put-refusal : {l : List ℕ} (k : ℕ) {a b : List ℕ} {j e : ℕ} → Put l 0 (refusedWord ++ (space ∷ [])) a j → Put a j (numberThen k lineFeed) b e → Put l 0 (refusalLine k) b e

@@ -1,9 +1,9 @@
 -- `put_answers` meets its contract: the answers for all pairs and the number of rotations are those of the record, and
--- line one and the lines of the pairs are put with them. Assumes nothing.
+-- line one and the lines of the men are put with them. Assumes nothing.
 use native.Mathlib.Omega.{arith}
 use borrow.Author.Needs.{needs}
-use Rattle.sheet_answers.specs.Laws.Digits.{size-short, rotations-short, grade-short, pairs-given}
-use Rattle.sheet_answers.specs.Laws.Over.{top-fits, pairs-fit, sheet-put}
+use Rattle.sheet_answers.specs.Laws.Digits.{size-short, rotations-short, grade-short, lines-given}
+use Rattle.sheet_answers.specs.Laws.Over.{top-fits, lines-fit, sheet-put}
 use Rattle.sheet_answers.proofs.answers.put_answers.Statement.{statement}
 use Rattle.sheet_answers.proofs.answers.put_answers.Tie as tie
 
@@ -24,19 +24,19 @@ put-top-requires c κs =
     let B = start a .pre .0 .2 .men in
     (top-fits A _ (start a .pre .1 .1), size-short U, rotations-short U (A .all-rotations), grade-short U (λ i u. B .light u) A)
 
-put-pairs-requires : tie.Need-put-pairs-requires
-put-pairs-requires c κs =
+put-lines-requires : tie.Need-put-lines-requires
+put-lines-requires c κs =
     let t : tie.After-put-top = search in
     let a : tie.After-answer-pairs = search in
     let A = a .answer-pairs .ensures in
-    (pairs-given (start a .pre .0 .0) (λ i u. start a .pre .0 .2 .men .light u) A (start a .pre .1 .0), pairs-fit A _ (t .put-top .ensures) (start a .pre .1 .1))
+    (lines-given (start a .pre .0 .0) (λ i u. start a .pre .0 .2 .men .light u) A (start a .pre .1 .0), lines-fit A _ (t .put-top .ensures) (start a .pre .1 .1))
 
 returns : tie.Need-returns
 returns c =
-    let p : tie.After-put-pairs = search in
+    let p : tie.After-put-lines = search in
     let t : tie.After-put-top = search in
     let a : tie.After-answer-pairs = search in
-    sheet-put (a .answer-pairs .ensures) _ (t .put-top .ensures) (p .put-pairs .ensures)
+    sheet-put (a .answer-pairs .ensures) _ (t .put-top .ensures) (p .put-lines .ensures)
 
 pub put-answers-spec : {M : Type 1} → statement M
 put-answers-spec =
@@ -48,6 +48,6 @@ put-answers-spec =
     put-top-requires
     (λ c. search needs)
     (λ c. search needs)
-    put-pairs-requires
+    put-lines-requires
     (λ c. search needs)
     returns)

@@ -39,7 +39,7 @@ made s = let a = s .args in lent (a .n) (a .mlists) (a .mranks) (a .wlists) (a .
 allowed :
     (c : tie.After-enum-told) →
     let s = start (stable c) in
-    EachBook (s .args .answer) (made s) (λ b. Allowed b (now (s .args .matching)) (now (s .args .weights)) (made s) (stable c .judge .result))
+    EachBook (s .args .answer) (s .args .partial) (made s) (λ b. Allowed b (now (s .args .matching)) (now (s .args .weights)) (made s) (stable c .judge .result))
 allowed c = weights-allowed (stable c .judge .ensures) _ (weighed c .check-weights .ensures) (ap verdictOf (c .enum-told .given .1))
 
 whole :
@@ -47,7 +47,7 @@ whole :
     let s = start (stable c) in
     let m = now (s .args .matching) in
     let k = now (s .args .weights) in
-    EachBook (s .args .answer) (made s) (λ b. sheetOver (made s) (weightOf k) (stable c .judge .result .places) m ≡ weightedSheetFor b m k)
+    EachBook (s .args .answer) (s .args .partial) (made s) (λ b. sheetOver (made s) (weightOf k) (stable c .judge .result .places) m ≡ weightedSheetFor b m k)
 whole c b B = let A = allowed c b B in sheet-over (A .judged) (A .stable) _ ∙ sym (sheet-answers b _ _ (A .weighed))
 
 returns : tie.Need-returns

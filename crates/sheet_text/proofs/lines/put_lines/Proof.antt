@@ -1,12 +1,12 @@
--- `put_pairs` meets its contract. The loop's invariant: the lines of the men before `man` stand in the buffer, and
+-- `put_lines` meets its contract. The loop's invariant: the lines of the men before `man` stand in the buffer, and
 -- there is room for the rest. The measure is the number of men left. Assumes nothing.
 use Prim.Native.Nat.{_-_, _<_}
 use native.Mathlib.Omega.{arith}
 use Rattle.laws.specs.Values.{vec}
 use Rattle.format.specs.Format.{entryIn}
 use Rattle.sheet_text.specs.Laws.Lines.{LinesPut, lines-start, lines-room, lines-on, lines-end}
-use Rattle.sheet_text.proofs.lines.put_pairs.Statement.{statement}
-use Rattle.sheet_text.proofs.lines.put_pairs.Tie as tie
+use Rattle.sheet_text.proofs.lines.put_lines.Statement.{statement}
+use Rattle.sheet_text.proofs.lines.put_lines.Tie as tie
 
 abbrev Inv-loop : tie.InvT-loop
 Inv-loop out₀ at n matching letters distances end₀ man₀ out end man =
@@ -32,24 +32,23 @@ man-lt c = let w : tie.After-wide Inv-loop μ-loop = search in omega (arith, w .
 index-lt : (c : tie.After-wide2 Inv-loop μ-loop) → c .wide2 .result < start (at-loop (in-loop c)) .args .n
 index-lt c = omega (arith, c .wide2 .ensures .0, man-lt (in-loop c))
 
-put-pair-requires : tie.Need-put-pair-requires Inv-loop μ-loop
-put-pair-requires c κs =
-    let w : tie.After-woman-of Inv-loop μ-loop = search in
+put-line-requires : tie.Need-put-line-requires Inv-loop μ-loop
+put-line-requires c κs =
     let i : tie.After-wide2 Inv-loop μ-loop = search in
     let t = in-loop i in
     let l = at-loop t in (
-      lines-room (start l .pre .1) (l .loop .inv) (i .wide2 .ensures .0) (w .woman-of .ensures) (man-lt t),
+      omega (arith, start l .pre .0 .women, man-lt t),
       start l .pre .0 .distances-short (index-lt i),
+      lines-room (start l .pre .1) (l .loop .inv) (i .wide2 .ensures .0) (man-lt t),
     )
 
 loop-again : tie.Need-loop-again Inv-loop μ-loop
 loop-again c =
-    let p : tie.After-put-pair Inv-loop μ-loop = search in
-    let w : tie.After-woman-of Inv-loop μ-loop = search in
+    let p : tie.After-put-line Inv-loop μ-loop = search in
     let i : tie.After-wide2 Inv-loop μ-loop = search in
     let t = in-loop i in
     let l = at-loop t in
-    lines-on (start l .pre .1) (l .loop .inv) (i .wide2 .ensures .0) (w .woman-of .ensures) (man-lt t) (p .put-pair .ensures)
+    lines-on (start l .pre .1) (l .loop .inv) (i .wide2 .ensures .0) (man-lt t) (p .put-line .ensures)
     (c .next-man .ensures)
 
 returns : tie.Need-returns Inv-loop μ-loop
@@ -58,8 +57,8 @@ returns c =
     let l : tie.At-loop Inv-loop μ-loop = search in
     lines-end (start l .pre .1) (l .loop .inv) (omega (arith, w .wide .ensures .0, c .if1 .left))
 
-pub put-pairs-spec : {M : Type 1} → statement M
-put-pairs-spec =
+pub put-lines-spec : {M : Type 1} → statement M
+put-lines-spec =
     tie.close
     (tie.spec
     Inv-loop
@@ -67,11 +66,10 @@ put-pairs-spec =
     (λ c. let s : tie.Start Inv-loop μ-loop = search in lines-start (s .pre .1))
     (λ c κs. tt)
     (λ c κs. tt)
-    (λ c κs. let t : tie.Then1 Inv-loop μ-loop = search in omega (arith, start (at-loop t) .pre .0 .women, man-lt t))
     (λ c. let i : tie.After-wide2 Inv-loop μ-loop = search in omega (arith, index-lt i, start (at-loop (in-loop i)) .pre .0 .letters-long))
     (λ c. let i : tie.After-wide2 Inv-loop μ-loop = search in omega (arith, index-lt i, start (at-loop (in-loop i)) .pre .0 .few))
     (λ c. let i : tie.After-wide2 Inv-loop μ-loop = search in omega (arith, index-lt i, start (at-loop (in-loop i)) .pre .0 .distances-long))
-    put-pair-requires
+    put-line-requires
     (λ c κs. let t : tie.Then1 Inv-loop μ-loop = search in omega (arith, start (at-loop t) .pre .0 .few, man-lt t))
     (λ c. let t : tie.Then1 Inv-loop μ-loop = search in omega (arith, man-lt t, c .next-man .ensures))
     loop-again
