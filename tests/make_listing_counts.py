@@ -1,6 +1,6 @@
 #!/usr/bin/env python3
 """The counts of the first part of tests/listing_compare, from document 01's definitions over all matchings and, for
-weights, from W-201 of document 02.
+weights and short lists, from W-201 and W-203 of document 02.
 
     tests/make_listing_counts.py            prints them, in half a minute
     tests/make_listing_counts.py --check    says whether tests/listing_compare/expected begins with them
@@ -15,7 +15,8 @@ import pathlib
 import sys
 
 sys.dont_write_bytecode = True
-from counts.book import Book, answer
+from counts.book import NOBODY, Book, answer
+from counts.drawn import KINDS, WAYS, Drawn, permutation
 
 
 class Counts(collections.Counter):
@@ -25,7 +26,11 @@ class Counts(collections.Counter):
         """A book alone; the reply is its rotations and which precedes which."""
         rotations = book.rotations()
         total, before = len(rotations), book.order(rotations)
+        alone = NOBODY in book.all_stable[0]
         self["books"] += 1
+        self["books with rotations"] += total > 0
+        self["books with somebody alone on each side"] += alone
+        self["books with both"] += total > 0 and alone
         self["rotations"] += total
         self["refusals"] += (total + 1) ** 2 - total**2  # two numbers, of which one is that of no rotation
         for marks in itertools.product([0, 1], repeat=total) if total <= 3 else []:
@@ -43,8 +48,13 @@ class Counts(collections.Counter):
         self["matchings"] += 1
         self["sheets"] += 1
         for s in range(book.n):
-            self["answers " + answer(*book.moved(m, s), [1] * book.n)[0]] += 1
-            self["refusals"] += 1  # the student with the mentor after his own
+            self["searches that a mentor who is alone ends before a willing one"] += book.ends_early(m, s)
+            if m[s] == NOBODY:
+                self["students alone"] += 1
+                self["refusals"] += 2  # the student with nobody, and with mentor 0
+            else:
+                self["answers " + answer(*book.moved(m, s), [1] * book.n)[0]] += 1
+                self["refusals"] += 1  # the student with the mentor after his own
         eliminated = book.runs()[m]
         marks = [int(rotation in eliminated) for rotation in rotations]
         self.set(marks, before)
@@ -54,11 +64,12 @@ class Counts(collections.Counter):
 
     def weighted(self, book, m, tables):
         """A stable matching with each of some tables of weights."""
-        moved = [book.moved(m, s) for s in range(book.n)]
+        moved = {s: book.moved(m, s) for s in range(book.n) if m[s] != NOBODY}
         for weights in tables:
             self["weighted matchings"] += 1
+            self["refusals"] += book.n - len(moved)  # each student who is alone, with mentor 0
             grade = 0
-            for s in range(book.n):
+            for s in moved:
                 letter, total = answer(*moved[s], weights)
                 self["weighted answers " + letter] += 1
                 self["weighted totals"] += total
@@ -71,15 +82,6 @@ class Counts(collections.Counter):
         self["matchings"] += times
         self["sheets"] += times
         self["refusals"] += 4 * times
-
-
-def permutation(n, k):
-    """Permutation number k of 0 to n - 1."""
-    a = list(range(n))
-    for j in range(n, 1, -1):
-        a[j - 1], a[k % j] = a[k % j], a[j - 1]
-        k //= j
-    return tuple(a)
 
 
 def count_small(counts):
@@ -103,67 +105,79 @@ def count_small(counts):
                 counts.weighted(book, m, tables[:1] if n == 3 and len(book.all_stable) == 1 else tables)
 
 
-class Drawn:
-    """Books and weights drawn by the numbers of Park and Miller after a seed."""
-
-    def __init__(self, seed):
-        self.last = seed
-
-    def draw(self):
-        self.last = self.last * 48271 % 2147483647
-        return self.last
-
-    def lists(self, kind, n):
-        """The lists of both sides: those of the kind with the people renumbered and some neighbours exchanged."""
-        people = [permutation(n, self.draw()) for _ in range(2)]
-        sides = [[None] * n for _ in range(2)]
-        for side in range(2):
-            own, other = people[side], people[1 - side]
-            for x in range(n):
-                if kind == "random":
-                    row = permutation(n, self.draw())
-                elif kind == "cyclic":
-                    row = [(x + side + k) % n for k in range(n)]
-                else:
-                    row = sorted(range(n), key=lambda y, x=x: (x ^ y) ^ 7 * side)
-                sides[side][own[x]] = [other[y] for y in row]
-        for _ in range(self.draw() % 6):
-            row = sides[self.draw() % 2][self.draw() % n]
-            place = self.draw() % n
-            if place:
-                row[place - 1], row[place] = row[place], row[place - 1]
-        return sides
+def count_matchings(counts, book, others, drawn_weights):
+    """Every stable matching of a book, also with weights of any bytes and with weights 0, 1 and 2, which are drawn;
+    and other matchings, if they are not stable."""
+    rotations, before = counts.book(book)
+    for number, m in enumerate(book.all_stable):
+        counts.stable(book, m, number, rotations, before)
+        counts.weighted(book, m, [[drawn_weights.draw() % end for _ in range(book.n)] for end in (256, 3)])
+    for m in others:
+        if m not in book.all_stable:
+            counts.refused()
 
 
 def count_drawn(counts):
-    """Drawn books for n = 4 to 6 with every stable matching and three drawn ones, if they are not stable; every stable
-    matching with weights of any bytes and with weights 0, 1 and 2, which are drawn too."""
+    """Drawn books for n = 4 to 6 with three drawn matchings."""
     drawn, drawn_weights = Drawn(1), Drawn(3)
     for n, books in ((4, 600), (5, 300), (6, 150)):
-        for kind in ["random", "cyclic", "xor"] * books:
+        for kind in KINDS * books:
             book = Book(*drawn.lists(kind, n))
+            count_matchings(counts, book, [permutation(n, drawn.draw()) for _ in range(3)], drawn_weights)
+
+
+def count_small_short(counts):
+    """Every choice of lists of edition 2 for n up to 2, with all bytes that name a mentor or nobody and all weights 0,
+    1 and 2; those that are one-sided are refused."""
+    for n in range(3):
+        lists = [row for length in range(n + 1) for row in itertools.permutations(range(n), length)]
+        for both in itertools.product(lists, repeat=2 * n):
+            students, mentors = both[:n], both[n:]
+            if any((t in students[s]) != (s in mentors[t]) for s in range(n) for t in range(n)):
+                counts["books refused as one-sided"] += 1
+                counts["refusals"] += 1
+                continue
+            book = Book(students, mentors, short=True)
             rotations, before = counts.book(book)
-            for number, m in enumerate(book.all_stable):
-                counts.stable(book, m, number, rotations, before)
-            for _ in range(3):
-                if permutation(n, drawn.draw()) not in book.all_stable:
+            for m in itertools.product([*range(n), NOBODY], repeat=n):
+                if m in book.all_stable:
+                    counts.stable(book, m, 0, rotations, before)
+                    counts.weighted(book, m, itertools.product([0, 1, 2], repeat=n))
+                else:
                     counts.refused()
-            for m in book.all_stable:
-                counts.weighted(book, m, [[drawn_weights.draw() % end for _ in range(n)] for end in (256, 3)])
 
 
+def count_drawn_short(counts):
+    """Drawn books of edition 2 for n = 3 to 6 with three drawn matchings in which students may be alone."""
+    drawn, drawn_weights = Drawn(4), Drawn(5)
+    for n, books in ((3, 60), (4, 100), (5, 100), (6, 60)):
+        for way, kind in itertools.product(WAYS * books, KINDS):
+            book = Book(*drawn.short_lists(kind, way, n), short=True)
+            count_matchings(counts, book, [drawn.some_placed(n) for _ in range(3)], drawn_weights)
+
+
+SHORT_WORDS = ["books refused as one-sided", "books with rotations", "books with somebody alone on each side"]
+SHORT_WORDS += ["books with both", "students alone", "searches that a mentor who is alone ends before a willing one"]
 WORDS = ["books", "matchings", "stable matchings", "answers U", "answers D", "answers F"]
 WORDS += ["refusals", "rotations", "sets", "sheets"]
 WORDS += ["weighted matchings", "weighted answers U", "weighted answers D", "weighted answers F"]
 WORDS += ["weighted totals", "weighted grades"]
 
+
+def lines(counts, words):
+    return "".join(f"{word} {counts[word]}\n" for word in words)
+
+
 if __name__ == "__main__":
-    counts = Counts()
-    count_small(counts)
-    count_drawn(counts)
-    text = "".join(f"{word} {counts[word]}\n" for word in WORDS) + "differences 0\n"
+    full, short = Counts(), Counts()
+    count_small(full)
+    count_drawn(full)
+    count_small_short(short)
+    count_drawn_short(short)
+    text = lines(full, WORDS) + "differences 0\n"
+    text += "edition 2: " + lines(short, SHORT_WORDS + WORDS) + "differences 0\n"
     if sys.argv[1:] == ["--check"]:
         stored = (pathlib.Path(__file__).resolve().parent / "listing_compare" / "expected").read_text()
-        lines = [line for line in stored.splitlines(keepends=True) if not line.startswith("#")]
-        sys.exit(0 if "".join(lines).startswith(text) else "tests/listing_compare/expected does not begin with\n" + text)
+        stored = "".join(line for line in stored.splitlines(keepends=True) if not line.startswith("#"))
+        sys.exit(0 if stored.startswith(text) else "tests/listing_compare/expected does not begin with\n" + text)
     sys.stdout.write(text)

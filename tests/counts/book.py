@@ -1,26 +1,46 @@
-"""A book and what is defined of it: by document 01 over all matchings, and for weights by W-201 of document 02."""
-import itertools
+"""A book and what is defined of it: by document 01 over all matchings, and for weights and short lists by W-201 and
+W-203 of document 02."""
 import math
+
+NOBODY = 255
 
 
 class Book:
-    """Ranked lists of students and of mentors, best first."""
+    """Ranked lists of students and of mentors, best first. Where they may be short, a student may have NOBODY."""
 
-    def __init__(self, students, mentors):
+    def __init__(self, students, mentors, short=False):
         self.n = len(students)
-        self.students, self.mentors = students, mentors
-        self.all_stable = [m for m in itertools.permutations(range(self.n)) if self.is_stable(m)]
+        self.students, self.mentors, self.short = students, mentors, short
+        self.all_stable = [m for m in self.matchings(()) if self.is_stable(m)]
+
+    def matchings(self, begun):
+        """All matchings that begin so, in the order of their bytes. Each pair lists each other."""
+        if len(begun) == self.n:
+            yield begun
+            return
+        for t in sorted(self.students[len(begun)]):
+            if t not in begun:
+                yield from self.matchings(begun + (t,))
+        if self.short:
+            yield from self.matchings(begun + (NOBODY,))
 
     def place(self, student, mentor):
-        return self.students[student].index(mentor)
+        """The place of a mentor on a student's list; NOBODY comes after all."""
+        row = self.students[student]
+        return len(row) if mentor == NOBODY else row.index(mentor)
+
+    def wants(self, mentor, student, m):
+        """Whether a mentor is alone in m, or ranks a student above her own."""
+        row = self.mentors[mentor]
+        return mentor not in m or row.index(student) < row.index(m.index(mentor))
 
     def is_stable(self, m):
-        """No pair ranks each other above their partners."""
+        """No two list each other and are each alone or prefer the other."""
         for s in range(self.n):
             for t in self.students[s]:
                 if t == m[s]:
                     break
-                if self.mentors[t].index(s) < self.mentors[t].index(m.index(t)):
+                if self.wants(t, s, m):
                     return False
         return True
 
@@ -32,11 +52,16 @@ class Book:
     # Rotations
 
     def next_mentor(self, m, s):
-        below = self.students[s][self.place(s, m[s]) + 1 :]
-        for t in below:
-            if self.mentors[t].index(s) < self.mentors[t].index(m.index(t)):
-                return t
+        """The first below his own who wants the student; one who is alone ends the search."""
+        for t in self.students[s][self.place(s, m[s]) + 1 :]:
+            if self.wants(t, s, m):
+                return t if t in m else None
         return None
+
+    def ends_early(self, m, s):
+        """Whether one who is alone ends the search before another who wants the student."""
+        below = self.students[s][self.place(s, m[s]) + 1 :]
+        return self.next_mentor(m, s) is None and any(t in m and self.wants(t, s, m) for t in below)
 
     def exposed(self, m):
         """The rotations exposed in m, each a tuple of pairs from its lowest student, by that student."""

@@ -8,18 +8,19 @@ use independent::book;
 use independent::random::Random;
 
 /// One book damaged in a number of ways.
-pub fn ask(both: &mut Both, sound: &Sound, lists: &[u8]) {
+pub fn ask(both: &mut Both, sound: &Sound) {
     let optimal = sound.poset.optimal[..sound.n].to_vec();
     for _ in 0..6 {
         let damaged = damage(sound, &mut both.random);
         ask_all(both, sound, &damaged, &optimal);
     }
     ask_sheets(both, sound, &optimal);
-    ask_writer(both, sound.n, lists);
     let noise: Vec<u8> = (0..both.random.below(40)).map(|_| both.random.byte()).collect();
     ask_all(both, sound, &noise, &optimal);
-    let headed = [&[1, both.random.below(3) as u8], &noise[..]].concat();
-    ask_all(both, sound, &headed, &optimal);
+    for edition in [1, 2] {
+        let headed = [&[edition, both.random.below(3) as u8], &noise[..]].concat();
+        ask_all(both, sound, &headed, &optimal);
+    }
 }
 
 /// A damaged copy: the edition, n, the directory or the entries changed, cut off or lengthened, one or more of these.
@@ -38,7 +39,7 @@ fn damage_once(bytes: Vec<u8>, n: usize, random: &mut Random) -> Vec<u8> {
         0 => 0,
         1 => 1,
         2 | 3 => 2 + random.below(8 * n + 1),
-        4..=7 => start + random.below(2 * n * n + 1),
+        4..=7 => start + random.below(bytes.len().saturating_sub(start) + 1),
         _ => bytes.len(),
     };
     if at < bytes.len() {
@@ -59,7 +60,7 @@ fn damage_once(bytes: Vec<u8>, n: usize, random: &mut Random) -> Vec<u8> {
 }
 
 /// Every function that takes a book.
-fn ask_all(both: &mut Both, sound: &Sound, damaged: &[u8], matching: &[u8]) {
+pub fn ask_all(both: &mut Both, sound: &Sound, damaged: &[u8], matching: &[u8]) {
     let n = sound.n;
     let (byte, little_room) = (both.random.byte(), both.random.below(12));
     both.tally.damaged_books += 1;
@@ -106,7 +107,7 @@ fn ask_sheets(both: &mut Both, sound: &Sound, matching: &[u8]) {
 }
 
 /// The writer with lists that are cut off, too long or damaged, with n that is wrong, and with short buffers.
-fn ask_writer(both: &mut Both, n: usize, lists: &[u8]) {
+pub fn ask_writer(both: &mut Both, n: usize, lists: &[u8]) {
     let size = book::size(n);
     both.write_book(n, &[lists, &[0]].concat(), size);
     both.write_book(n + 1, lists, book::size(n + 1));

@@ -1,18 +1,19 @@
-//! Compares the archive's functions with the independent implementation on books of all sizes and kinds, well formed
-//! and damaged, until the time is over or there are many differences. Exits with 1 on any difference, or when something
-//! that has to occur never did.
+//! Compares the archive's functions with the independent implementation on books of all sizes and kinds and of both
+//! editions, well formed and damaged, until the time is over or there are many differences. Exits with 1 on any
+//! difference, or when something that has to occur never did.
 //!
 //!     compare [SECONDS] [SEED]
 
 mod both;
 mod damage;
+mod short;
 mod sound;
 mod tally;
 mod weights;
 
 use both::Both;
 use independent::random::Random;
-use independent::samples;
+use independent::{samples, short_samples};
 use sound::Sound;
 use std::process::ExitCode;
 use std::time::{Duration, Instant};
@@ -38,15 +39,29 @@ fn main() -> ExitCode {
     ExitCode::from((both.tally.differences > 0 || !missing.is_empty()) as u8)
 }
 
-/// One book with all questions, and the same book damaged.
+/// One book with all questions, and the same book damaged. Half of the books are of edition 2, with short lists.
 fn one_book(both: &mut Both) {
     let n = size(&mut both.random);
-    let lists = samples::any(n, &mut both.random);
-    let sound = Sound::new(n, &lists);
-    both.tally.books += 1;
-    both.tally.largest_books += (n == 64) as usize;
-    sound.ask(both, &lists);
-    damage::ask(both, &sound, &lists);
+    if both.random.once_in(2) {
+        let lists = short_samples::any(n, &mut both.random);
+        let sound = Sound::new(n, short_samples::book(&lists));
+        ask(both, &sound);
+        sound.ask_unlisted(both);
+        short::ask_damaged(both, &sound, &lists);
+    } else {
+        let lists = samples::any(n, &mut both.random);
+        let sound = Sound::new(n, samples::book(n, &lists));
+        sound.ask_writer(both, &lists);
+        ask(both, &sound);
+        damage::ask_writer(both, n, &lists);
+    }
+}
+
+/// Counts a book and asks it, whole and damaged.
+fn ask(both: &mut Both, sound: &Sound) {
+    both.tally.count_book(sound);
+    sound.ask(both);
+    damage::ask(both, sound);
 }
 
 /// A size: most are small, and 64 is among them.

@@ -3,10 +3,10 @@
 use crate::both::Both;
 use crate::weights;
 use independent::instance;
+use independent::matching::ALONE;
 use independent::poset::Poset;
 use independent::random::Random;
 use independent::reply::Reply;
-use independent::samples;
 
 /// A well-formed book and its rotation poset, which the questions are taken from.
 pub struct Sound {
@@ -16,17 +16,20 @@ pub struct Sound {
 }
 
 impl Sound {
-    pub fn new(n: usize, lists: &[u8]) -> Sound {
-        let book = samples::book(n, lists);
+    pub fn new(n: usize, book: Vec<u8>) -> Sound {
         let poset = Poset::numbered(&instance::read(&book).expect("a well-formed book"));
         Sound { n, book, poset }
     }
 
-    /// All questions.
-    pub fn ask(&self, both: &mut Both, lists: &[u8]) {
+    /// The students who are alone in every stable matching.
+    pub fn alone(&self) -> impl Iterator<Item = usize> + '_ {
+        (0..self.n).filter(|&man| self.poset.optimal[man] == ALONE)
+    }
+
+    /// All questions that a book of either edition is asked.
+    pub fn ask(&self, both: &mut Both) {
         let before = self.book.clone();
         both.check_book(&self.book);
-        self.ask_writer(both, lists);
         self.ask_lists(both);
         self.ask_rotations(both);
         self.ask_sets(both);
@@ -41,7 +44,8 @@ impl Sound {
         assert_eq!(self.book, before, "a call has written to the book");
     }
 
-    fn ask_writer(&self, both: &mut Both, lists: &[u8]) {
+    /// The writer, with the lists of a book of edition 1.
+    pub fn ask_writer(&self, both: &mut Both, lists: &[u8]) {
         for room in around(self.book.len(), &mut both.random) {
             both.write_book(self.n, lists, room);
         }
@@ -170,16 +174,21 @@ impl Sound {
             bad.push(swapped);
         }
         for matching in bad {
-            both.check_matching(&self.book, &matching);
-            both.grade(&self.book, &matching);
-            both.matching_to_set(&self.book, &matching, self.poset.count());
-            let (input, little_room) = ([&self.book[..], &matching].concat(), both.random.below(12));
-            both.sheet(&input, 1024);
-            both.sheet(&input, little_room);
-            both.repair(&self.book, &matching, &[0, stable.first().copied().unwrap_or(0)], self.n, self.n);
-            both.repair(&self.book, &matching, &[0], 0, self.n);
-            self.ask_weighted_bad_matching(both, &matching);
+            self.ask_bad_matching(both, &matching);
         }
+    }
+
+    /// One matching that breaks a rule.
+    pub fn ask_bad_matching(&self, both: &mut Both, matching: &[u8]) {
+        both.check_matching(&self.book, matching);
+        both.grade(&self.book, matching);
+        both.matching_to_set(&self.book, matching, self.poset.count());
+        let (input, little_room) = ([&self.book[..], matching].concat(), both.random.below(12));
+        both.sheet(&input, 1024);
+        both.sheet(&input, little_room);
+        both.repair(&self.book, matching, &[0, matching.first().copied().unwrap_or(0)], self.n, self.n);
+        both.repair(&self.book, matching, &[0], 0, self.n);
+        self.ask_weighted_bad_matching(both, matching);
     }
 
     /// Requests that break 13, 11, 12 and 14, alone and together.
@@ -187,7 +196,8 @@ impl Sound {
         let n = self.n as u8;
         let own = stable.first().copied().unwrap_or(0);
         let other = both.random.below(self.n + 1) as u8;
-        let requests: [&[u8]; 11] = [
+        let alone = self.alone().next().unwrap_or(0) as u8;
+        let requests: [&[u8]; 13] = [
             &[],
             &[0],
             &[0, own, 0],
@@ -199,6 +209,8 @@ impl Sound {
             &[0, other],
             &[other, own],
             &[0, own],
+            &[alone, 0],
+            &[alone, ALONE],
         ];
         let (n, less) = (self.n, self.n.saturating_sub(1));
         for request in requests {

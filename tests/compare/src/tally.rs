@@ -1,5 +1,6 @@
 //! Counts of what was compared, and the report of differences.
 
+use crate::sound::Sound;
 use independent::reply::Reply;
 use std::fmt::Write;
 
@@ -12,7 +13,10 @@ const REPAIRS: [&str; 2] = ["repair", "weighted_repair"];
 #[derive(Default)]
 pub struct Tally {
     pub books: usize,
-    pub largest_books: usize,
+    /// Books for n = 64: of edition 1 and of edition 2.
+    pub largest_books: [usize; 2],
+    /// Books of edition 2: all, those with somebody alone, with rotations, with both.
+    pub short_books: [usize; 4],
     pub damaged_books: usize,
     pub matchings: usize,
     pub calls: usize,
@@ -25,11 +29,24 @@ pub struct Tally {
     /// Repairs, plain and weighted, that move students who weigh more than 0 and leave others who do.
     pub mixed: [usize; 2],
     /// Refusals by number; at 0 the calls that were not refused.
-    pub refusals: [usize; 18],
+    pub refusals: [usize; 20],
     pub differences: usize,
 }
 
 impl Tally {
+    /// Counts a book.
+    pub fn count_book(&mut self, sound: &Sound) {
+        let short = sound.book[0] == 2;
+        self.books += 1;
+        self.largest_books[short as usize] += (sound.n == 64) as usize;
+        if short {
+            let (alone, rotations) = (sound.alone().next().is_some(), sound.poset.count() > 0);
+            for (times, met) in self.short_books.iter_mut().zip([true, alone, rotations, alone && rotations]) {
+                *times += met as usize;
+            }
+        }
+    }
+
     /// Counts a call by the independent library's reply.
     pub fn count(&mut self, reply: Reply) {
         self.calls += 1;
@@ -69,19 +86,23 @@ impl Tally {
 
     /// What never occurred and should have.
     pub fn missing(&self) -> Vec<String> {
-        let refusals = (0..18).filter(|&k| self.refusals[k] == 0).map(|k| format!("refusal {k}"));
+        let refusals = (0..20).filter(|&k| self.refusals[k] == 0).map(|k| format!("refusal {k}"));
         let letters = (0..3).filter(|&k| self.letters[k] == 0).map(|k| format!("letter {}", ["U", "D", "F"][k]));
-        let books = (self.largest_books == 0).then(|| "book of 64".to_string());
+        let large = (0..2).filter(|&k| self.largest_books[k] == 0).map(|k| format!("book of 64 of edition {}", k + 1));
+        let kinds = ["", " with somebody alone", " with rotations", " with both"];
+        let short = (0..4).filter(|&k| self.short_books[k] == 0).map(|k| format!("book of edition 2{}", kinds[k]));
         let turned = (0..2).filter(|&k| self.turned[k] == 0).map(|k| format!("weights that give {}", ["U", "D"][k]));
         let weightless = (self.weightless == 0).then(|| "repair of weight 0".to_string());
         let mixed = REPAIRS.iter().zip(self.mixed).filter(|(_, times)| *times == 0);
         let mixed = mixed.map(|(call, _)| format!("{call} that moves students and leaves others"));
-        refusals.chain(letters).chain(books).chain(turned).chain(weightless).chain(mixed).collect()
+        refusals.chain(letters).chain(large).chain(short).chain(turned).chain(weightless).chain(mixed).collect()
     }
 
     pub fn print(&self) {
         let ([up, down, fixed], [turned_up, turned_down]) = (self.letters, self.turned);
-        println!("books {} ({} of n = 64), stable matchings {}", self.books, self.largest_books, self.matchings);
+        let ([full, short], [all, alone, rotations, with_both]) = (self.largest_books, self.short_books);
+        println!("books {}, stable matchings {}; books of n = 64: {full} and {short}", self.books, self.matchings);
+        println!("edition 2: {all}, with somebody alone {alone}, with rotations {rotations}, with both {with_both}");
         println!("damaged books {}, calls {}: U {up}, D {down}, F {fixed}", self.damaged_books, self.calls);
         println!("weights: {turned_up} D to U, {turned_down} U to D, {} totals of 0", self.weightless);
         let [plain, weighted] = self.mixed;

@@ -1,11 +1,13 @@
-//! The book: the encoded lists of n men and n women. Rules 1 to 7 in document 01's order, one person's list, the writer.
+//! The book: the encoded lists of n men and n women, of n entries each in edition 1 and of 0 to n in edition 2. Rules
+//! 1 to 7 and 18 in the order of document 01 and of W-203, one person's list, the writer.
 
+use crate::bits::{everyone, transposed};
 use crate::reply::{refused, rule, Checked, Refusal};
 
 /// The largest n.
 pub const LARGEST: usize = 64;
 
-/// The bytes of a book of n men and n women.
+/// The bytes of a book of n men and n women where each list has n entries.
 pub fn size(n: usize) -> usize {
     2 + 8 * n + 2 * n * n
 }
@@ -15,82 +17,111 @@ pub fn lists_start(n: usize) -> usize {
     2 + 8 * n
 }
 
-/// An input taken apart: the book, as many bytes as its byte 1 says or all if there are fewer, and what follows it.
+/// Whether lists may be short and men alone: in edition 2.
+pub fn partial(book: &[u8]) -> bool {
+    book[0] == 2
+}
+
+/// An input taken apart: the book and what follows it.
 pub fn and_rest(input: &[u8]) -> (&[u8], &[u8]) {
-    let size = input.get(1).map_or(input.len(), |&n| size(n as usize));
-    input.split_at(size.min(input.len()))
+    input.split_at(extent(input).min(input.len()))
+}
+
+/// How many bytes the book of an input has. In edition 2 it goes to the end of its last list, and to that of the
+/// directory at least; bytes that are not there count as 0. Otherwise it has the size that byte 1 gives.
+fn extent(input: &[u8]) -> usize {
+    let byte = |at: usize| input.get(at).map_or(0, |&byte| byte as usize);
+    let (n, start) = (byte(1), lists_start(byte(1)));
+    let word = |at: usize| byte(at) + 256 * byte(at + 1);
+    match (byte(0), n) {
+        (2, 0) => start,
+        (2, _) => start.max(word(start - 4) + word(start - 2)),
+        _ => size(n),
+    }
 }
 
 /// n, from the two bytes at the front: under 2 bytes, then 2, then 3.
 fn people(book: &[u8]) -> Checked<usize> {
     rule(book.len() < 2, 1, book.len())?;
-    rule(book[0] != 1, 2, 0)?;
+    rule(book[0] != 1 && book[0] != 2, 2, 0)?;
     rule(book[1] as usize > LARGEST, 3, 1)?;
     Ok(book[1] as usize)
 }
 
-/// Rules 1 to 7; n of a well-formed book.
+/// Rules 1 to 7 and 18; n of a well-formed book.
 pub fn check(book: &[u8]) -> Checked<usize> {
     let n = people(book)?;
-    rule(book.len() < size(n), 1, book.len())?;
-    rule(book.len() > size(n), 4, size(n))?;
-    check_directory(book, n)?;
-    let start = lists_start(n);
-    check_lists(&book[start..], n).map_err(|r| refused(r.number, start + r.place as usize))?;
+    if partial(book) {
+        rule(book.len() < lists_start(n), 1, book.len())?;
+    } else {
+        check_size(book, size(n))?;
+    }
+    let end = check_directory(book, n)?;
+    check_size(book, end)?;
+    check_lists((0..2 * n).map(|k| list(book, k)), n, lists_start(n))?;
+    rule(one_sided(book, n), 18, 0)?;
     Ok(n)
 }
 
-/// Directory pair k as it has to be: the offset of list k and the length n, two bytes each, low byte first.
-fn directory_pair(n: usize, k: usize) -> [u8; 4] {
-    let offset = ((lists_start(n) + k * n) as u16).to_le_bytes();
-    [offset[0], offset[1], n as u8, 0]
+/// Rules 1 and 4 against a size.
+fn check_size(book: &[u8], size: usize) -> Checked<()> {
+    rule(book.len() < size, 1, book.len())?;
+    rule(book.len() > size, 4, size)
 }
 
-/// Rule 5: the first directory pair that is not as it has to be.
-fn check_directory(book: &[u8], n: usize) -> Checked<()> {
-    for (k, pair) in book[2..lists_start(n)].chunks_exact(4).enumerate() {
-        rule(pair != directory_pair(n, k), 5, 2 + 4 * k)?;
-    }
-    Ok(())
+/// Directory pair k: the offset of list k and its length, two bytes each, low byte first.
+pub fn directory_pair(book: &[u8], k: usize) -> (usize, usize) {
+    let word = |at: usize| u16::from_le_bytes([book[at], book[at + 1]]) as usize;
+    (word(2 + 4 * k), word(4 + 4 * k))
 }
 
-/// Rules 6 and 7 on 2n lists of n entries, end to end; places count from the first byte.
-fn check_lists(lists: &[u8], n: usize) -> Checked<()> {
+/// Rule 5: the first directory pair whose list does not begin where the one before ended, or has a length that it may
+/// not have. Answers with the end of the last list.
+fn check_directory(book: &[u8], n: usize) -> Checked<usize> {
+    let mut end = lists_start(n);
     for k in 0..2 * n {
-        let list = &lists[k * n..(k + 1) * n];
-        if !names_all(list) {
-            let fault = first_fault(list);
-            return Err(refused(fault.number, k * n + fault.place as usize));
+        let (offset, length) = directory_pair(book, k);
+        let allowed = if partial(book) { length <= n } else { length == n };
+        rule(offset != end || !allowed, 5, 2 + 4 * k)?;
+        end += length;
+    }
+    Ok(end)
+}
+
+/// List k of a book: men's lists are 0 to n - 1, women's the next n.
+fn list(book: &[u8], k: usize) -> &[u8] {
+    let (offset, length) = directory_pair(book, k);
+    &book[offset..offset + length]
+}
+
+/// Rules 6 and 7 on lists that stand end to end; the first entry has the place `at`.
+fn check_lists<'a>(lists: impl Iterator<Item = &'a [u8]>, n: usize, mut at: usize) -> Checked<()> {
+    for list in lists {
+        if !names_each_once(list, n) {
+            return Err(first_fault(list, n, at));
         }
+        at += list.len();
     }
     Ok(())
 }
 
-/// Whether a list names each of 0 to n - 1: then each once, since it has n entries.
-fn names_all(list: &[u8]) -> bool {
-    let mut named = 0u64;
-    let mut bits = 0;
-    for &entry in list {
-        bits |= entry;
-        named |= 1 << (entry & 63);
-    }
-    bits < 64 && named == everyone(list.len())
+/// Whether a list names people below n only, and nobody twice.
+fn names_each_once(list: &[u8], n: usize) -> bool {
+    let bits = list.iter().fold(0, |bits, entry| bits | entry);
+    let named = named(list);
+    bits < 64 && named & !everyone(n) == 0 && named.count_ones() as usize == list.len()
 }
 
-/// The set of 0 to n - 1, as bits.
-pub fn everyone(n: usize) -> u64 {
-    if n == 0 {
-        0
-    } else {
-        u64::MAX >> (64 - n)
-    }
+/// Whom a list names.
+fn named(list: &[u8]) -> u64 {
+    list.iter().fold(0, |set, &entry| set | 1 << (entry & 63))
 }
 
-/// The first fault of a list that does not name all: rule 6 before rule 7 at one entry.
-fn first_fault(list: &[u8]) -> Refusal {
+/// The first fault of a list that has one and begins at `start`: rule 6 before rule 7 at one entry.
+fn first_fault(list: &[u8], n: usize, start: usize) -> Refusal {
     let mut named = 0u64;
-    for (at, &entry) in list.iter().enumerate() {
-        if entry as usize >= list.len() {
+    for (at, &entry) in (start..).zip(list) {
+        if entry as usize >= n {
             return refused(6, at);
         }
         if named >> entry & 1 == 1 {
@@ -98,29 +129,37 @@ fn first_fault(list: &[u8]) -> Refusal {
         }
         named |= 1 << entry;
     }
-    unreachable!("a list of n entries, all below n and no two equal, names all")
+    unreachable!("a list of entries that are all below n, no two of them equal, has no fault")
 }
 
-/// Where the list of person k begins: men 0 to n - 1 are persons 0 to n - 1, women the next n. Rule 11.
+/// Whether somebody lists one who does not list him. Whom each man lists is a row of bits, and so is whom each woman
+/// lists; with rows and columns exchanged one table has to be the other.
+fn one_sided(book: &[u8], n: usize) -> bool {
+    let table = |from: usize| {
+        let mut rows = [0; 64];
+        (0..n).for_each(|i| rows[i] = named(list(book, from + i)));
+        rows
+    };
+    transposed(table(n)) != table(0)
+}
+
+/// Where the list of a man or a woman begins, and its length. Rule 11.
 pub fn list_offset(book: &[u8], woman: bool, number: usize) -> Checked<(usize, usize)> {
     let n = check(book)?;
     rule(number >= n, 11, 0)?;
-    let person = if woman { n + number } else { number };
-    Ok((lists_start(n) + person * n, n))
+    Ok(directory_pair(book, if woman { n + number } else { number }))
 }
 
-/// Writes the book of n and 2n^2 list bytes: 3, then 1 and 4 against 2n^2, then 6 and 7, then 14.
+/// Writes the book of edition 1 of n and 2n^2 list bytes: 3, then 1 and 4 against 2n^2, then 6 and 7, then 14.
 pub fn write(n: usize, lists: &[u8], out: &mut [u8]) -> Checked<usize> {
     rule(n > LARGEST, 3, 1)?;
-    let due = 2 * n * n;
-    rule(lists.len() < due, 1, lists.len())?;
-    rule(lists.len() > due, 4, due)?;
-    check_lists(lists, n)?;
+    check_size(lists, 2 * n * n)?;
+    check_lists(lists.chunks(n.max(1)), n, 0)?;
     rule(out.len() < size(n), 14, 0)?;
-    out[0] = 1;
-    out[1] = n as u8;
+    out[..2].copy_from_slice(&[1, n as u8]);
     for k in 0..2 * n {
-        out[2 + 4 * k..6 + 4 * k].copy_from_slice(&directory_pair(n, k));
+        let offset = ((lists_start(n) + k * n) as u16).to_le_bytes();
+        out[2 + 4 * k..6 + 4 * k].copy_from_slice(&[offset[0], offset[1], n as u8, 0]);
     }
     out[lists_start(n)..size(n)].copy_from_slice(lists);
     Ok(size(n))

@@ -4,7 +4,7 @@
 use crate::book;
 use crate::gale_shapley;
 use crate::instance;
-use crate::matching;
+use crate::matching::{self, ALONE};
 use crate::poset::Poset;
 use crate::repair::{self, Answer, Repairs};
 use crate::reply::{reply, rule, Checked, Reply};
@@ -105,7 +105,7 @@ fn repaired(
     if answer != Answer::Fixed {
         out[..n].copy_from_slice(&repairs.matching(&matching, man, answer)[..n]);
         for m in 0..n as u8 {
-            let rank = |woman| instance.men.rank(m, woman) as i8;
+            let rank = |woman| if woman == ALONE { 0 } else { instance.men.rank(m, woman) as i8 };
             gains[m as usize] = rank(given[m as usize]) - rank(out[m as usize]);
         }
     }

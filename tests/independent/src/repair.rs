@@ -8,6 +8,7 @@
 //!
 //! Both repairs of a pair are the same whatever men weigh; weights say which of the two is taken.
 
+use crate::bits::transposed;
 use crate::instance::Instance;
 use crate::matching::{Matching, Partners};
 use crate::poset::{self, Poset};
@@ -149,29 +150,11 @@ impl<'a> Repairs<'a> {
 }
 
 /// The answers for all men, and the grade: the largest total of a repair, less the asking man's weight, or 0 if all
-/// pairs are fixed.
+/// pairs are fixed. A man who is alone is in no rotation; his answer has no meaning and does not count.
 pub fn all(instance: &Instance, poset: &Poset, matching: &Matching, weights: &Weights) -> (Vec<Answer>, usize) {
     let repairs = Repairs::of(instance, poset, matching, u64::MAX);
     let answers: Vec<Answer> = (0..instance.n as u8).map(|m| repairs.answer(m, weights)).collect();
     let repaired = answers.iter().enumerate().filter(|(_, &answer)| answer != Answer::Fixed);
     let grade = repaired.map(|(m, answer)| answer.total() - weights.total(1 << m)).max().unwrap_or(0);
     (answers, grade)
-}
-
-/// The table of bits with rows and columns exchanged: halves of 32, then of 16, and so on, change places.
-fn transposed(mut rows: [u64; 64]) -> [u64; 64] {
-    let mut width = 32;
-    let mut mask = u64::MAX >> 32;
-    while width > 0 {
-        let mut k = 0;
-        while k < 64 {
-            let swapped = (rows[k] >> width ^ rows[k | width]) & mask;
-            rows[k] ^= swapped << width;
-            rows[k | width] ^= swapped;
-            k = ((k | width) + 1) & !width;
-        }
-        width /= 2;
-        mask ^= mask << width;
-    }
-    rows
 }

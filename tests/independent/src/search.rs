@@ -8,8 +8,8 @@
 //! - the label of each pair of m and a woman between the two: had she not moved, she would be his next woman.
 
 use crate::groups::Groups;
-use crate::instance::Instance;
-use crate::matching::{Matching, Partners};
+use crate::instance::{Instance, UNLISTED};
+use crate::matching::{Matching, Partners, ALONE};
 
 /// No rotation.
 const NONE: u16 = u16::MAX;
@@ -41,7 +41,7 @@ struct Step {
 /// The state of the search: a stable matching between the man-optimal and the woman-optimal one.
 struct Search<'a> {
     instance: &'a Instance<'a>,
-    /// The man of each woman, and his rank on her list.
+    /// The man of each woman, and his rank on her list; whoever a woman who is alone lists ranks above that.
     man: Partners,
     man_rank: [u8; 64],
     /// The rank of each man's woman, and the rank at which the search for his next woman goes on.
@@ -53,7 +53,7 @@ struct Search<'a> {
     label: Vec<u16>,
     /// The rotation for which each was last recorded as coming right before it.
     recorded_for: Vec<u16>,
-    /// The men who have reached their last woman.
+    /// The men who have reached their last woman, and those who are alone.
     done: u64,
     found: Found,
 }
@@ -76,7 +76,7 @@ impl<'a> Search<'a> {
         let mut search = Search {
             instance,
             man: optimal.man,
-            man_rank: [0; 64],
+            man_rank: [UNLISTED; 64],
             rank: [0; 64],
             next_rank: [0; 64],
             moved_by: [NONE; 64],
@@ -85,8 +85,12 @@ impl<'a> Search<'a> {
             done: 0,
             found,
         };
-        for w in 0..n as u8 {
-            let m = optimal.man[w as usize];
+        for m in 0..n as u8 {
+            let w = optimal.woman[m as usize];
+            if w == ALONE {
+                search.done |= 1 << m;
+                continue;
+            }
             search.man_rank[w as usize] = instance.women.rank(w, m);
             search.rank[m as usize] = instance.men.rank(m, w);
             search.next_rank[m as usize] = instance.men.rank(m, w) + 1;
@@ -94,13 +98,13 @@ impl<'a> Search<'a> {
         search
     }
 
-    /// The man's next woman: the first below his own who ranks him above her man. A woman who has refused him
+    /// The first woman below the man's own who ranks him above her man, or is alone. A woman who has refused him
     /// refuses him for ever, so each search goes on where the last one ended.
     #[inline(always)]
-    fn next_woman(&mut self, m: u8) -> Option<u8> {
+    fn first_willing(&mut self, m: u8) -> Option<u8> {
+        let list = self.instance.men.list(m);
         let next_rank = &mut self.next_rank[m as usize & 63];
-        while (*next_rank as usize) < self.instance.n {
-            let w = self.instance.men.at(m, *next_rank);
+        while let Some(&w) = list.get(*next_rank as usize) {
             if self.instance.women.rank(w, m) < self.man_rank[w as usize & 63] {
                 return Some(w);
             }
@@ -109,9 +113,18 @@ impl<'a> Search<'a> {
         None
     }
 
+    /// The man's next woman, if it is not known that he stays with his own. A woman who is alone ends the search:
+    /// there is none. A man moves on only together with the man of his next woman.
+    #[inline(always)]
+    fn next_woman(&mut self, m: u8) -> Option<u8> {
+        let w = self.first_willing(m)?;
+        let follower = self.man[w as usize & 63];
+        (follower != ALONE && self.done >> follower & 1 == 0).then_some(w)
+    }
+
     /// Follows next women from a man until it is known that he has reached his last woman. A path that meets itself
     /// has found a rotation; it is eliminated, and the path goes on from the man before it. A path that ends ends for
-    /// all men on it: a man moves on only together with the man of his next woman.
+    /// all men on it.
     fn walk(&mut self, start: u8) {
         let mut path = [Step { man: start, next: 0 }; 64];
         let mut place = [0u8; 64];
@@ -120,8 +133,7 @@ impl<'a> Search<'a> {
         let mut man = start;
         loop {
             on_path |= 1 << man;
-            let next = self.next_woman(man).filter(|&w| self.done >> self.man[w as usize & 63] & 1 == 0);
-            let Some(next) = next else {
+            let Some(next) = self.next_woman(man) else {
                 self.done |= on_path;
                 return;
             };

@@ -3,7 +3,7 @@
 
 use crate::book;
 use crate::instance;
-use crate::matching;
+use crate::matching::{self, ALONE};
 use crate::poset::Poset;
 use crate::repair;
 use crate::reply::Checked;
@@ -46,6 +46,10 @@ fn write(book: &[u8], given: &[u8], weights: &[u8], sheet: &mut Vec<u8>) -> Chec
     number(sheet, grade, b'\n');
     for (man, answer) in answers.iter().enumerate() {
         number(sheet, man, b' ');
+        if given[man] == ALONE {
+            sheet.extend_from_slice(b"- N 0\n");
+            continue;
+        }
         number(sheet, given[man] as usize, b' ');
         sheet.push(answer.letter());
         sheet.push(b' ');

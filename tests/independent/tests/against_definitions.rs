@@ -1,24 +1,26 @@
 //! The library against the definitions: every book of up to three men with every matching, and some thousands of four
-//! and five, most of them rich in stable matchings.
+//! and five, most of them rich in stable matchings. Of edition 2, short lists, every book of up to two men, and some
+//! thousands of three to five.
 
 mod definitions;
 
-use definitions::known::{every_book, Known};
+use definitions::known::{every_book, every_short_book, Known};
 use definitions::rotations::{closed, matching_of};
-use definitions::{bytes, distance, permutations, Matching};
+use definitions::{bytes, distance, Matching};
 use independent::random::Random;
 use independent::reply::Reply;
-use independent::{calls, samples};
+use independent::{calls, samples, short_samples};
 
 impl Known {
     fn test(&self) {
         self.test_extremes();
         self.test_rotations();
         self.test_sets();
-        for given in permutations(self.market.n) {
-            self.test_check(&given);
+        for given in self.market.matchings() {
+            self.test_check(&bytes(&given));
         }
         for given in &self.stable {
+            self.test_placed(given);
             self.test_repairs(given);
         }
     }
@@ -75,19 +77,33 @@ impl Known {
         assert_eq!(closed_sets, self.stable.len());
     }
 
-    fn test_check(&self, given: &Matching) {
-        let due = match self.market.first_blocking(given) {
-            None => Reply::default(),
-            Some((m, w)) => Reply { number: 10, place: m as usize, second: w as usize, ..Reply::default() },
+    /// Bytes as a matching; the number of the rule that they break.
+    fn test_check(&self, given: &[u8]) -> usize {
+        let due = match self.market.matching(given).map(|matching| self.market.first_blocking(&matching)) {
+            Ok(None) => Reply::default(),
+            Ok(Some((m, w))) => Reply { number: 10, place: m, second: w, ..Reply::default() },
+            Err((number, place)) => Reply { number, place, ..Reply::default() },
         };
-        assert_eq!(calls::check_matching(&self.book, &bytes(given)), due);
+        assert_eq!(calls::check_matching(&self.book, given), due, "{given:?} {:?}", self.book);
+        due.number
+    }
+
+    /// Who is placed is the same in every stable matching, on both sides.
+    fn test_placed(&self, given: &Matching) {
+        let women = |m: &Matching| (0..self.market.n).filter(|&w| m.contains(&Some(w))).collect::<Vec<_>>();
+        assert!(given.iter().zip(self.optimal()).all(|(one, other)| one.is_some() == other.is_some()));
+        assert_eq!(women(given), women(self.optimal()));
     }
 
     fn test_repairs(&self, given: &Matching) {
         let n = self.market.n;
         let ones = vec![1; n];
         for man in 0..n {
-            let request = [man as u8, given[man] as u8];
+            let Some(woman) = given[man] else {
+                self.test_alone(given, man);
+                continue;
+            };
+            let request = [man as u8, woman as u8];
             let (mut out, mut gains) = (vec![99; n], vec![99; n]);
             let reply = calls::repair(&self.book, &bytes(given), &request, &mut out, &mut gains);
             let Some((letter, repaired)) = self.market.answer(&self.stable, given, &ones, man) else {
@@ -105,6 +121,28 @@ impl Known {
         let input = [&self.book[..], &bytes(given)].concat();
         let sheet = self.market.sheet(&self.stable, self.rotations.len(), given, &ones);
         assert_eq!(String::from_utf8(independent::sheet::text(&input)).unwrap(), sheet);
+    }
+
+    /// A request for a man without a woman is refused: 12, or 11 where it has 255 in her place.
+    fn test_alone(&self, given: &Matching, man: usize) {
+        for (woman, number) in (0..self.market.n as u8).map(|w| (w, 12)).chain([(255, 11)]) {
+            let n = self.market.n;
+            let reply = calls::repair(&self.book, &bytes(given), &[man as u8, woman], &mut vec![0; n], &mut vec![0; n]);
+            assert_eq!(reply, Reply { number, ..Reply::default() });
+        }
+    }
+}
+
+/// Books of edition 2 that were met: with rotations, with somebody alone, and with both.
+#[derive(Default)]
+struct Met([usize; 3]);
+
+impl Met {
+    fn count(&mut self, known: &Known) {
+        let (rotations, alone) = (!known.rotations.is_empty(), known.somebody_alone());
+        for (times, met) in self.0.iter_mut().zip([rotations, alone, rotations && alone]) {
+            *times += met as usize;
+        }
     }
 }
 
@@ -126,4 +164,41 @@ fn books_of_four_and_five() {
         largest = largest.max(known.stable.len());
     }
     assert_eq!(largest, 10, "the sample reaches the largest number of stable matchings for n = 4");
+}
+
+/// Every book of edition 2 of up to two men, and all bytes 0 to n and 255 as a matching.
+#[test]
+fn every_short_book_of_up_to_two() {
+    let (mut books, mut met) = ([0; 3], Met::default());
+    for n in 0..3 {
+        let entries: Vec<u8> = (0..=n as u8).chain([255]).collect();
+        let entry = |k: usize, i: usize| entries[k / entries.len().pow(i as u32) % entries.len()];
+        for known in every_short_book(n) {
+            known.test();
+            books[n] += 1;
+            met.count(&known);
+            for k in 0..entries.len().pow(n as u32) {
+                known.test_check(&(0..n).map(|i| entry(k, i)).collect::<Vec<u8>>());
+            }
+        }
+    }
+    assert_eq!((books, met.0), ([1, 2, 47], [2, 18, 0]));
+}
+
+#[test]
+fn short_books_of_three_to_five() {
+    let mut random = Random::new(203);
+    let (mut met, mut refused) = (Met::default(), [0; 20]);
+    for k in 0..4000 {
+        let n = 3 + k % 3;
+        let known = Known::short(&short_samples::any(n, &mut random));
+        known.test();
+        met.count(&known);
+        for _ in 0..8 {
+            let given: Vec<u8> = (0..n).map(|_| if random.once_in(3) { 255 } else { random.below(n) as u8 }).collect();
+            refused[known.test_check(&given)] += 1;
+        }
+    }
+    assert!(met.0.iter().all(|&times| times > 500), "{:?}", met.0);
+    assert!([9, 10, 19].iter().all(|&rule| refused[rule] > 500), "{refused:?}");
 }

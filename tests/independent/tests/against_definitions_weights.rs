@@ -3,11 +3,11 @@
 
 mod definitions;
 
-use definitions::known::{every_book, Known};
+use definitions::known::{every_book, every_short_book, Known};
 use definitions::{bytes, weight_moved, Matching};
 use independent::random::Random;
 use independent::reply::Reply;
-use independent::{calls, samples};
+use independent::{calls, samples, short_samples};
 
 /// Answers that were met, by letter: all of them, those of another letter than the plain one, those of total 0.
 #[derive(Default)]
@@ -29,7 +29,7 @@ impl Met {
 impl Known {
     /// The repairs of all pairs, the grade and the sheet of a stable matching.
     fn test_weights(&self, given: &Matching, weights: &[u8], met: &mut Met) {
-        for man in 0..self.market.n {
+        for man in (0..self.market.n).filter(|&man| given[man].is_some()) {
             self.test_repair(given, weights, man, met);
         }
         let given_bytes = bytes(given);
@@ -42,7 +42,8 @@ impl Known {
 
     fn test_repair(&self, given: &Matching, weights: &[u8], man: usize, met: &mut Met) {
         let n = self.market.n;
-        let (given_bytes, request) = (bytes(given), [man as u8, given[man] as u8]);
+        let given_bytes = bytes(given);
+        let request = [man as u8, given_bytes[man]];
         let (mut out, mut gains) = (vec![99; n], vec![99; n]);
         let plain = calls::repair(&self.book, &given_bytes, &request, &mut vec![0; n], &mut vec![0; n]);
         let reply = calls::weighted_repair(&self.book, &given_bytes, weights, &request, &mut out, &mut gains);
@@ -124,4 +125,32 @@ fn books_of_four_and_five() {
     }
     assert!(met.turned[..2].iter().all(|&times| times > 100), "up for down, down for up: {:?}", met.turned);
     assert!(met.weightless[..2].iter().all(|&times| times > 100), "{:?}", met.weightless);
+}
+
+/// Every book of edition 2 of up to two men with all weights of 0, 1 and 2, and books of three to five with any.
+#[test]
+fn short_books() {
+    let mut met = Met::default();
+    let mut random = Random::new(47);
+    for n in 0..3 {
+        for known in every_short_book(n) {
+            for given in &known.stable {
+                known.test_ones(given);
+                small_weights(n).iter().for_each(|weights| known.test_weights(given, weights, &mut met));
+            }
+        }
+    }
+    for k in 0..1500 {
+        let n = 3 + k % 3;
+        let known = Known::short(&short_samples::any(n, &mut random));
+        for given in &known.stable {
+            known.test_ones(given);
+            for limit in [2, 3, 256] {
+                let weights: Vec<u8> = (0..n).map(|_| random.below(limit) as u8).collect();
+                known.test_weights(given, &weights, &mut met);
+            }
+        }
+    }
+    assert!(met.letters.iter().all(|&times| times > 500), "{:?}", met.letters);
+    assert!(met.turned[..2].iter().all(|&times| times > 20), "{:?}", met.turned);
 }

@@ -2,16 +2,20 @@
 
 mod definitions;
 
-use definitions::Market;
+use definitions::{Market, Matching};
 use independent::instance;
 use independent::poset::Poset;
 use independent::reply::Reply;
-use independent::{book, calls, samples, sheet};
+use independent::{book, calls, samples, sheet, short_samples};
 
 const MATCHING_5: [u8; 7] = [4, 5, 6, 3, 1, 2, 0];
 
 fn table_1() -> Vec<u8> {
     samples::book(7, &samples::digits(&samples::TABLE_1))
+}
+
+fn table_1_market() -> Market {
+    Market::new(false, &short_samples::full(7, &samples::digits(&samples::TABLE_1)))
 }
 
 fn sheet_of(book: &[u8], matching: &[u8]) -> String {
@@ -66,7 +70,7 @@ fn table_1_sets() {
     assert_eq!(calls::matching_to_set(&table_1(), &MATCHING_5, &mut set), Reply::value(6));
     assert_eq!(set, [1, 1, 1, 0, 0, 0]);
     assert_eq!(calls::set_to_matching(&table_1(), &[0, 0, 1, 0, 0, 0], &mut out), refused(16, 0));
-    let market = Market::new(7, &samples::digits(&samples::TABLE_1));
+    let market = table_1_market();
     assert_eq!(market.stable_matchings().len(), 11);
     let sets = (0..64u8).map(|s| [0, 1, 2, 3, 4, 5].map(|k| s >> k & 1));
     assert_eq!(sets.filter(|s| calls::set_to_matching(&table_1(), s, &mut out).number == 0).count(), 11);
@@ -96,16 +100,16 @@ const TABLE_3: [(Option<usize>, Option<usize>); 7] = [
 
 #[test]
 fn tables_2_and_3() {
-    let market = Market::new(7, &samples::digits(&samples::TABLE_1));
+    let market = table_1_market();
     let stable = market.stable_matchings();
-    let given: Vec<usize> = MATCHING_5.iter().map(|&w| w as usize).collect();
+    let given = market.matching(&MATCHING_5).unwrap();
     let of_set = |set: &str| {
         let marks: Vec<u8> = ('0'..'6').map(|r| set.contains(r) as u8).collect();
         let mut out = vec![0; 7];
         assert_eq!(calls::set_to_matching(&table_1(), &marks, &mut out), Reply::value(7));
-        out.iter().map(|&w| w as usize).collect::<Vec<usize>>()
+        market.matching(&out).unwrap()
     };
-    let distance = |m: &Vec<usize>| definitions::distance(m, &given);
+    let distance = |m: &Matching| definitions::distance(m, &given);
     for man in 0..7 {
         let (up, down) = (TABLE_2[man].0.map(of_set), TABLE_2[man].1.map(of_set));
         assert_eq!((up.as_ref().map(distance), down.as_ref().map(distance)), TABLE_3[man]);

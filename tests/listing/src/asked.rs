@@ -1,8 +1,8 @@
 //! The calls of include/placement.h. A book is asked by many calls, so what is listed of it is kept.
 //!
 //! "After the book, as far as a call takes such input or a result buffer: 8, 9, 10, then 13, 11, 12, then 14; for a
-//! set 15, 16, 14; for one list or two rotations 11." "Nothing is written on refusal; on success nothing past the
-//! result." The calls on repairs stand in `repair_calls`.
+//! set 15, 16, 14; for one list or two rotations 11." 19 comes "after 9". "Nothing is written on refusal; on success
+//! nothing past the result." The calls on repairs stand in `repair_calls`.
 
 use crate::book;
 use crate::lists::Lists;
@@ -44,10 +44,12 @@ impl Asked<'_> {
         self.runs.get_or_init(|| Runs::new(self.listing()))
     }
 
-    /// The stable matching that the bytes are: the book's rules, then 8, 9, 10.
+    /// The stable matching that the bytes are: the book's rules, then 8, 9, 19, 10.
     pub fn stable_matching(&self, matching: &[u8]) -> Result<Matching, Refusal> {
-        let matching = Matching::read(self.checked?, matching)?;
-        self.listing().lists.check_stable(&matching)?;
+        self.checked?;
+        let lists = &self.listing().lists;
+        let matching = Matching::read(lists, matching)?;
+        lists.check_stable(&matching)?;
         Ok(matching)
     }
 

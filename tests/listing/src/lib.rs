@@ -4,13 +4,13 @@
 //! go up to 64.
 //!
 //! Document 01's students are men here and its mentors women, as in its source. Quotation marks hold its sentences,
-//! and on weights those of document 02's W-201.
+//! and on weights and short lists those of document 02's W-201 and W-203.
 //!
 //! - `people`: a man's number and a woman's
 //! - `reply`: what a call answers, refusals
-//! - `book`: rules 1 to 7, the writer
+//! - `book`: rules 1 to 7 and 18, the writer
 //! - `lists`: the ranked lists of a well-formed book
-//! - `matching`: rules 8 and 9, all matchings, distance
+//! - `matching`: rules 8, 9 and 19, all matchings, distance
 //! - `stable`: blocking pairs, rule 10, all stable matchings, the two extreme ones
 //! - `rotation`: next mentor, exposed rotations, elimination, numbers
 //! - `runs`: runs of eliminations, precedence, closed sets and their matchings

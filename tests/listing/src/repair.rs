@@ -2,7 +2,7 @@
 //! Document 01's distance is the total where every weight is 1.
 
 use crate::matching::Matching;
-use crate::people::Man;
+use crate::people::{Man, Woman};
 use crate::stable::Listing;
 use crate::weights::Weights;
 
@@ -37,12 +37,14 @@ impl Answer<'_> {
 impl Listing {
     /// "the stable matchings without the pair" of this man in the given one.
     fn without_pair(&self, given: &Matching, man: Man) -> Vec<&Matching> {
-        self.stable().iter().filter(|x| !x.holds(man, given.woman_of(man))).collect()
+        let woman = woman_of_the_asking(given, man);
+        self.stable().iter().filter(|x| !x.holds(man, woman)).collect()
     }
 
     /// "A pair is fixed if every stable matching of the book holds it."
     pub fn is_fixed(&self, given: &Matching, man: Man) -> bool {
-        self.stable().iter().all(|x| x.holds(man, given.woman_of(man)))
+        let woman = woman_of_the_asking(given, man);
+        self.stable().iter().all(|x| x.holds(man, woman))
     }
 
     /// "Repair up: of the stable matchings without the pair in which no student is worse off than in the given one,
@@ -77,18 +79,24 @@ impl Listing {
         }
     }
 
-    /// "each student's places gained, old place less new: above zero is better".
+    /// "each student's places gained, old place less new: above zero is better"; of a student without a mentor "the
+    /// gain is 0".
     pub fn gains(&self, given: &Matching, repaired: &Matching) -> Vec<i8> {
-        let place = |matching: &Matching, man| self.lists.place_of_woman(man, matching.woman_of(man)) as i8;
-        Man::all(self.lists.n()).map(|man| place(given, man) - place(repaired, man)).collect()
+        let place = |matching: &Matching, man| self.lists.place_of_woman(man, matching.woman_of(man)?);
+        let gain = |man| match (place(given, man), place(repaired, man)) {
+            (Some(old), Some(new)) => old as i8 - new as i8,
+            (None, None) => 0,
+            _ => panic!("who is placed is the same in every stable matching"),
+        };
+        Man::all(self.lists.n()).map(gain).collect()
     }
 
     /// "Each pair's total is reduced by the asking student's own weight, and the grade is the largest of these, 0 if
     /// all are fixed"; where every weight is 1, "the largest distance of an answer, less 1, over the pairs that are
     /// not fixed".
     pub fn grade(&self, given: &Matching, weights: Weights) -> usize {
-        let not_fixed = Man::all(self.lists.n()).filter(|&man| !self.is_fixed(given, man));
-        not_fixed.map(|man| self.answer(given, man, weights).total() - weights.of(man)).max().unwrap_or(0)
+        let not_fixed = given.pairs().filter(|&(man, _)| !self.is_fixed(given, man));
+        not_fixed.map(|(man, _)| self.answer(given, man, weights).total() - weights.of(man)).max().unwrap_or(0)
     }
 
     /// The least total weight of those whom a stable matching without the man's pair moves, or none where the pair is
@@ -96,4 +104,9 @@ impl Listing {
     pub fn least_total(&self, given: &Matching, man: Man, weights: Weights) -> Option<usize> {
         self.without_pair(given, man).iter().map(|x| weights.of_moved(x, given)).min()
     }
+}
+
+/// "The asking student is the one in the pair": his woman in the given matching.
+fn woman_of_the_asking(given: &Matching, man: Man) -> Woman {
+    given.woman_of(man).expect("a student without a mentor is in no pair")
 }

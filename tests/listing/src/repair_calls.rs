@@ -1,6 +1,6 @@
 //! The calls on repairs of include/placement.h: the repair of a pair and the grade, with weights and without.
 //!
-//! "After the book, …: 8, 9, 10, then 13, 11, 12, then 14"; and "17 weights, not n bytes, after 10".
+//! "After the book, …: 8, 9, 10, then 13, 11, 12, then 14"; "17 weights, not n bytes, after 10"; 19 comes "after 9".
 
 use crate::asked::Asked;
 use crate::matching::Matching;
@@ -15,7 +15,7 @@ impl Asked<'_> {
         vec![1; self.checked.unwrap_or(0)]
     }
 
-    /// The stable matching and the weights that the bytes are: the book's rules, then 8, 9, 10, then 17.
+    /// The stable matching and the weights that the bytes are: the book's rules, then 8, 9, 19, 10, then 17.
     pub fn weighed<'w>(&self, matching: &[u8], weights: &'w [u8]) -> Result<(Matching, Weights<'w>), Refusal> {
         let given = self.stable_matching(matching)?;
         Ok((given, Weights::read(self.checked?, weights)?))

@@ -12,20 +12,31 @@ pub struct Rotation(pub Vec<(Man, Woman)>);
 
 impl Lists {
     /// "a student's next mentor is the first one below the present one on that student's list who ranks this student
-    /// above her own present student. There may be none."
+    /// above her own present student. There may be none." "A mentor who is alone ends the search for a next mentor:
+    /// there is none."
     pub fn next_woman(&self, matching: &Matching, man: Man) -> Option<Woman> {
-        let present = self.place_of_woman(man, matching.woman_of(man));
-        let mut below = self.of_man(man)[present + 1..].iter().copied();
-        below.find(|&woman| self.woman_prefers(woman, man, matching.man_of(woman)))
+        for &woman in self.below(matching, man) {
+            let present_man = matching.man_of(woman)?;
+            if self.woman_prefers(woman, Some(man), Some(present_man)) {
+                return Some(woman);
+            }
+        }
+        None
+    }
+
+    /// Those "below the present one" on a man's list; nobody where he is alone.
+    pub fn below(&self, matching: &Matching, man: Man) -> &[Woman] {
+        let present = matching.woman_of(man).and_then(|woman| self.place_of_woman(man, woman));
+        present.map_or(&[], |place| &self.of_man(man)[place + 1..])
     }
 
     /// The rotation exposed in a stable matching whose lowest man is this one, if there is one.
     fn exposed_from(&self, matching: &Matching, lowest: Man) -> Option<Rotation> {
-        let mut pairs = vec![(lowest, matching.woman_of(lowest))];
+        let mut pairs = vec![(lowest, matching.woman_of(lowest)?)];
         let mut last = lowest;
         loop {
             let next = self.next_woman(matching, last)?;
-            last = matching.man_of(next);
+            last = matching.man_of(next)?;
             if last == lowest {
                 return Some(Rotation(pairs));
             }

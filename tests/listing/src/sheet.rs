@@ -10,7 +10,9 @@ use std::fmt::Write;
 /// The book of a sheet's input and what follows: "Bytes past the book's size are the matching."
 fn parts(input: &[u8]) -> (&[u8], &[u8]) {
     match input {
-        [_, n, ..] if usize::from(*n) <= book::LARGEST => input.split_at(book::size(usize::from(*n)).min(input.len())),
+        [_, n, ..] if usize::from(*n) <= book::LARGEST => {
+            input.split_at(book::bytes_of_the_book(usize::from(*n), input).min(input.len()))
+        }
         _ => (input, &[]),
     }
 }
@@ -46,15 +48,21 @@ fn printed(asked: &Asked, matching: &[u8], weights: &[u8]) -> String {
 }
 
 /// The lines: "Line one: n, rotations, grade. Then student, mentor, letter (U up, D down, F fixed) and distance, 0
-/// for F. One space parts fields; a line feed ends a line."
+/// for F. One space parts fields; a line feed ends a line." For a student without a mentor the "line shows `-`, `N`
+/// and 0".
 fn lines(asked: &Asked, given: &Matching, weights: Weights) -> String {
     let listing = asked.listing();
     let n = listing.lists.n();
     let mut text = format!("{n} {} {}\n", listing.rotations().len(), listing.grade(given, weights));
     for man in Man::all(n) {
-        let answer = listing.answer(given, man, weights);
-        let (woman, letter, total) = (given.woman_of(man), answer.letter(), answer.total());
-        writeln!(text, "{} {} {letter} {total}", man.0, woman.0).expect("a string takes every line");
+        let line = match given.woman_of(man) {
+            Some(woman) => {
+                let answer = listing.answer(given, man, weights);
+                format!("{} {} {}", woman.0, answer.letter(), answer.total())
+            }
+            None => "- N 0".to_string(),
+        };
+        writeln!(text, "{} {line}", man.0).expect("a string takes every line");
     }
     text
 }

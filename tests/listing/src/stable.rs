@@ -7,9 +7,12 @@ use crate::reply::Refusal;
 use std::cell::OnceCell;
 
 impl Lists {
-    /// "A pair blocks it when both rank each other above their partners in it."
+    /// "A pair blocks if each lists the other and each is alone or prefers the other." Where lists are full that is
+    /// "when both rank each other above their partners in it".
     pub fn blocks(&self, matching: &Matching, man: Man, woman: Woman) -> bool {
-        self.man_prefers(man, woman, matching.woman_of(man)) && self.woman_prefers(woman, man, matching.man_of(woman))
+        self.list_each_other(man, woman)
+            && self.man_prefers(man, Some(woman), matching.woman_of(man))
+            && self.woman_prefers(woman, Some(man), matching.man_of(woman))
     }
 
     /// Whether a man blocks a matching with some woman.
@@ -59,7 +62,16 @@ impl Listing {
     pub fn stable(&self) -> &[Matching] {
         let n = self.lists.n();
         assert!(n <= 7, "all matchings of n = {n} are too many to list");
-        self.stable.get_or_init(|| matching::all(n).into_iter().filter(|x| self.lists.is_stable(x)).collect())
+        self.stable.get_or_init(|| matching::all(&self.lists).into_iter().filter(|x| self.lists.is_stable(x)).collect())
+    }
+
+    /// "Who is placed is the same in every stable matching", on both sides.
+    pub fn same_are_placed(&self) -> bool {
+        let women =
+            |x: &Matching| Woman::all(self.lists.n()).map(|woman| x.man_of(woman).is_some()).collect::<Vec<_>>();
+        let men = |x: &Matching| Man::all(self.lists.n()).map(|man| x.woman_of(man).is_some()).collect::<Vec<_>>();
+        let first = &self.stable()[0];
+        self.stable().iter().all(|x| men(x) == men(first) && women(x) == women(first))
     }
 
     /// The student-best matching: the stable one in which each man has the best woman that any stable matching gives.

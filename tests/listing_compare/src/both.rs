@@ -2,8 +2,9 @@
 //! of the reply and in every byte of the buffers and of the guard bytes around them. What the archive reports of a
 //! repair is recounted from its gains.
 
+use crate::calls::Call;
 use crate::lent::Lent;
-use crate::tally::{Call, Tally};
+use crate::tally::Tally;
 use archive::Reply;
 use listing::asked::{self, Asked};
 

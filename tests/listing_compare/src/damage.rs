@@ -1,13 +1,13 @@
-//! Rules 1 to 7: damaged copies of a book, each asked by every call, where the other inputs are right and where they
-//! break every later rule.
+//! Rules 1 to 7 and 18: damaged copies of a book, each asked by every call, where the other inputs are right and where
+//! they break every later rule.
 
 use crate::both::Both;
 use crate::weights::WEIGHTS;
 use listing::asked::Asked;
 
 impl Both {
-    /// Asks copies that are cut to every length, lengthened, and changed in each byte; for n up to 2 in two bytes.
-    pub fn ask_damaged(&mut self, book: &Asked, n: usize) {
+    /// Asks copies that are cut to every length, lengthened, and changed in each byte; `twice` in two bytes.
+    pub fn ask_damaged(&mut self, book: &Asked, n: usize, twice: bool) {
         let matching = book.listing().student_best().bytes();
         let rotations = book.runs().rotations.len();
         let mut ask = |bytes: &[u8]| self.ask_damaged_copy(bytes, &matching, rotations);
@@ -25,7 +25,7 @@ impl Both {
                     ask(&changed[..size - 1]);
                     ask(&changed[..size + 1]);
                 }
-                if n <= 2 {
+                if twice {
                     change_another(&changed[..size], at, n, &mut ask);
                 }
             }
@@ -33,7 +33,7 @@ impl Both {
     }
 
     /// Asks a copy by every call.
-    fn ask_damaged_copy(&mut self, bytes: &[u8], matching: &[u8], rotations: usize) {
+    pub fn ask_damaged_copy(&mut self, bytes: &[u8], matching: &[u8], rotations: usize) {
         let copy = Asked::new(bytes);
         if copy.check_book().is_err() {
             self.tally.damaged_books += 1;

@@ -1,20 +1,27 @@
-//! Holds the archive against the listing of all matchings, in two parts: every book for n up to 3 and drawn ones for
-//! n = 4 to 6 with sound questions; and, on fewer books, whatever breaks a rule. Prints how much was compared and how
-//! often each rule was met. Exits with 1 on any difference, or where a call never gave a result or never met one of
-//! its rules, or no sheet printed a refusal that it can, or no repair moved students and left others.
+//! Holds the archive against the listing of all matchings, in two parts for each edition of the book: every book for
+//! n up to 3, or 2 with short lists, and drawn ones up to n = 6 with sound questions; and, on fewer books, whatever
+//! breaks a rule. A third part holds the archive against itself, on books of both editions with the same full lists.
+//! Prints how much was compared and how often each rule was met. Exits with 1 on any difference, or where a call
+//! never gave a result or never met one of its rules, or no sheet printed a refusal that it can, or no repair moved
+//! students and left others, in each edition.
 
 mod beyond;
 mod books;
 mod both;
+mod calls;
 mod damage;
+mod directories;
 mod draw;
+mod editions;
 mod lent;
 mod lists;
 mod marks;
 mod numbers;
+mod print;
 mod questions;
 mod requests;
 mod rooms;
+mod short_lists;
 mod strings;
 mod tally;
 mod weighted;
@@ -22,69 +29,39 @@ mod weights;
 mod writer;
 
 use both::Both;
+use listing::book::Edition;
 use std::process::ExitCode;
-use tally::{Call, Tally};
+use tally::Tally;
 
-/// Runs both parts and prints their counts.
+/// Runs all parts and prints their counts.
 fn main() -> ExitCode {
-    let mut sound = Both::default();
-    sound.ask_small_books();
-    sound.ask_drawn_books();
-    print_sound(&sound.tally);
-    let mut beyond = Both::default();
-    beyond.ask_beyond();
-    print_beyond(&beyond.tally);
-    let mut calls = beyond.tally;
-    let differences = sound.tally.differences + calls.differences;
-    calls.add_calls(&sound.tally);
-    print_rules(&calls);
-    let missing = calls.missing();
-    for what in &missing {
-        println!("never met: {what}");
-    }
-    ExitCode::from((differences > 0 || !missing.is_empty()) as u8)
+    let (mut full, mut short) = (Both::default(), Both::default());
+    short.ask_small_short_books();
+    short.ask_drawn_short_books();
+    full.ask_small_books();
+    full.ask_drawn_books();
+    print::sound(&full.tally);
+    print::short(&short.tally);
+    print::sound(&short.tally);
+    let (mut full_beyond, mut short_beyond, mut editions) = (Both::default(), Both::default(), Both::default());
+    full_beyond.ask_beyond();
+    print::beyond("beyond these", &full_beyond.tally);
+    short_beyond.ask_beyond_short();
+    print::beyond("beyond these of edition 2", &short_beyond.tally);
+    editions.ask_editions();
+    print::editions(&editions.tally);
+    let [mut full, short] = [[full, full_beyond], [short, short_beyond]].map(together);
+    let missing =
+        [(Edition::One, &full), (Edition::Two, &short)].map(|(edition, tally)| print::missing(edition, tally));
+    full.add(&short);
+    print::rules(&full);
+    let differences = full.differences + editions.tally.differences;
+    ExitCode::from((differences > 0 || missing.contains(&true)) as u8)
 }
 
-/// Prints the counts of the first part.
-fn print_sound(tally: &Tally) {
-    let [up, down, fixed] = tally.letters;
-    println!("books {}", tally.books);
-    println!("matchings {}", tally.matchings);
-    println!("stable matchings {}", tally.stable_matchings);
-    println!("answers U {up}");
-    println!("answers D {down}");
-    println!("answers F {fixed}");
-    println!("refusals {}", tally.refusals());
-    println!("rotations {}", tally.rotations);
-    println!("sets {}", tally.sets);
-    println!("sheets {}", tally.sheets);
-    let [up, down, fixed] = tally.weighted_letters;
-    println!("weighted matchings {}", tally.weighted_matchings);
-    println!("weighted answers U {up}");
-    println!("weighted answers D {down}");
-    println!("weighted answers F {fixed}");
-    println!("weighted totals {}", tally.weighted_totals);
-    println!("weighted grades {}", tally.weighted_grades);
-    println!("differences {}", tally.differences);
-}
-
-/// Prints the counts of the second part.
-fn print_beyond(tally: &Tally) {
-    println!("beyond these: books {}", tally.books);
-    println!("damaged copies {}", tally.damaged_books);
-    println!("calls {}", tally.calls());
-    println!("refusals {}", tally.refusals());
-    println!("differences {}", tally.differences);
-}
-
-/// Prints how often each rule was met in both parts, and how many repairs moved students and left others.
-fn print_rules(tally: &Tally) {
-    println!("calls of both parts {}", tally.calls());
-    for rule in 1..=17 {
-        println!("rule {rule} {}", tally.met(rule));
-    }
-    println!("sheets that print a refusal {}", tally.printed(Call::Sheet));
-    println!("weighted sheets that print a refusal {}", tally.printed(Call::WeightedSheet));
-    println!("repairs that move students and leave others {}", tally.mixed(Call::Repair));
-    println!("weighted repairs that move students and leave others {}", tally.mixed(Call::WeightedRepair));
+/// The calls and differences of both parts.
+fn together([sound, beyond]: [Both; 2]) -> Tally {
+    let mut all = sound.tally;
+    all.add(&beyond.tally);
+    all
 }

@@ -4,8 +4,9 @@
 use crate::both::Both;
 use crate::tally::letter_place;
 use listing::asked::Asked;
+use listing::lists::Lists;
 use listing::matching::Matching;
-use listing::people::Man;
+use listing::people::{Man, Woman};
 use listing::weights::Weights;
 
 /// Rooms that are enough for n up to 6: a matching, gains or a set; the list of rotations; a sheet.
@@ -23,8 +24,20 @@ impl Both {
         self.rotation_count(book);
         let rotations = self.rotations(book, LIST_ROOM);
         self.tally.rotations += rotations;
+        self.count_alone(book, rotations);
         self.ask_order(book, rotations);
         self.ask_sets(book, rotations);
+    }
+
+    /// Counts a book by its rotations and by who is alone. On both sides the same are placed in every stable
+    /// matching; so where a man is alone, a woman is.
+    fn count_alone(&mut self, book: &Asked, rotations: usize) {
+        let listing = book.listing();
+        self.expect(listing.same_are_placed(), "who is placed in every stable matching");
+        let (rotating, lonely) = (rotations > 0, listing.student_best().pairs().count() < listing.lists.n());
+        self.tally.rotating_books += rotating as usize;
+        self.tally.lonely_books += lonely as usize;
+        self.tally.rotating_lonely_books += (rotating && lonely) as usize;
     }
 
     /// Asks which rotation precedes which, and of the first number that no rotation has.
@@ -76,7 +89,11 @@ impl Both {
     fn ask_stable(&mut self, book: &Asked, stable: &Matching, matching: &[u8], number: usize) {
         self.tally.stable_matchings += 1;
         for man in Man::all(matching.len()) {
-            self.ask_pair(book, stable, matching, man);
+            self.tally.ended_searches += ends_early(&book.listing().lists, stable, man) as usize;
+            match stable.woman_of(man) {
+                Some(woman) => self.ask_pair(book, stable, matching, man, woman),
+                None => self.ask_alone(book, matching, man),
+            }
         }
         let mut set = self.matching_to_set(book, matching, ROOM);
         self.ask_set(book, &set);
@@ -89,8 +106,7 @@ impl Both {
 
     /// Asks for the repair of a man's pair, which moves as few students as any, and of him with the woman after his
     /// own.
-    fn ask_pair(&mut self, book: &Asked, stable: &Matching, matching: &[u8], man: Man) {
-        let woman = stable.woman_of(man);
+    fn ask_pair(&mut self, book: &Asked, stable: &Matching, matching: &[u8], man: Man, woman: Woman) {
         let due = self.repair(book, matching, &[man.0, woman.0], ROOM, ROOM);
         self.tally.letters[letter_place(due.letter)] += 1;
         let ones = book.ones();
@@ -99,4 +115,18 @@ impl Both {
         self.expect(due.value == fewest.unwrap_or(0), "the least distance of a stable matching without the pair");
         self.repair(book, matching, &[man.0, woman.0 + 1], ROOM, ROOM);
     }
+
+    /// Asks for the repair of a man who is alone, with his byte in the matching and with a woman.
+    fn ask_alone(&mut self, book: &Asked, matching: &[u8], man: Man) {
+        self.tally.alone += 1;
+        self.repair(book, matching, &[man.0, 255], ROOM, ROOM);
+        self.repair(book, matching, &[man.0, 0], ROOM, ROOM);
+    }
+}
+
+/// Whether a woman who is alone ends the search for a man's next woman before one who ranks him above her own man.
+fn ends_early(lists: &Lists, matching: &Matching, man: Man) -> bool {
+    let willing = |woman: Woman| lists.woman_prefers(woman, Some(man), matching.man_of(woman));
+    let mut placed = lists.below(matching, man).iter().filter(|&&woman| matching.man_of(woman).is_some());
+    lists.next_woman(matching, man).is_none() && placed.any(|&woman| willing(woman))
 }

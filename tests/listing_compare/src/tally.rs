@@ -1,86 +1,39 @@
 //! Counts of what was compared, the rules that were met, and the report of differences.
 
+use crate::calls::{prints, refused_by, Call, COUNT, RULES};
 use archive::Reply;
+use listing::book::Edition;
 
 /// Differences that are printed in full, and differences after which the program ends.
 const PRINTED: usize = 5;
 const MANY: usize = 100;
-
-/// Rules 1 to 7, which every call that takes a book may be refused by.
-const BOOK: &[usize] = &[1, 2, 3, 4, 5, 6, 7];
-
-/// The calls of include/placement.h.
-#[derive(Clone, Copy, Debug)]
-pub enum Call {
-    CheckBook,
-    BookSize,
-    WriteBook,
-    StudentList,
-    MentorList,
-    CheckMatching,
-    StudentBest,
-    MentorBest,
-    Repair,
-    Grade,
-    RotationCount,
-    Rotations,
-    Precedes,
-    SetToMatching,
-    MatchingToSet,
-    Sheet,
-    WeightedRepair,
-    WeightedGrade,
-    WeightedSheet,
-}
-
-/// How many calls there are, and the number after the last rule's.
-const COUNT: usize = 19;
-const RULES: usize = 18;
 
 /// The place of a letter among U, D and F.
 pub fn letter_place(letter: usize) -> usize {
     [b'U', b'D', b'F'].iter().position(|&other| usize::from(other) == letter).expect("every answer has a letter")
 }
 
-/// Each call, whether it takes a book, and the other rules that it may be refused by, as the header says.
-const CALLS: [(Call, bool, &[usize]); COUNT] = [
-    (Call::CheckBook, true, &[]),
-    (Call::BookSize, false, &[3]),
-    (Call::WriteBook, false, &[3, 1, 4, 6, 7, 14]),
-    (Call::StudentList, true, &[11]),
-    (Call::MentorList, true, &[11]),
-    (Call::CheckMatching, true, &[8, 9, 10]),
-    (Call::StudentBest, true, &[14]),
-    (Call::MentorBest, true, &[14]),
-    (Call::Repair, true, &[8, 9, 10, 13, 11, 12, 14]),
-    (Call::Grade, true, &[8, 9, 10]),
-    (Call::RotationCount, true, &[]),
-    (Call::Rotations, true, &[14]),
-    (Call::Precedes, true, &[11]),
-    (Call::SetToMatching, true, &[15, 16, 14]),
-    (Call::MatchingToSet, true, &[8, 9, 10, 14]),
-    (Call::Sheet, false, &[14]),
-    (Call::WeightedRepair, true, &[8, 9, 10, 17, 13, 11, 12, 14]),
-    (Call::WeightedGrade, true, &[8, 9, 10, 17]),
-    (Call::WeightedSheet, false, &[14]),
-];
-
-/// The refusals that each call prints as a sheet; rule 4 does not occur, since bytes past the book are no part of it.
-const PRINTS: [(Call, &[usize]); 2] =
-    [(Call::Sheet, &[1, 2, 3, 5, 6, 7, 8, 9, 10]), (Call::WeightedSheet, &[1, 2, 3, 5, 6, 7, 8, 9, 10, 17])];
-
 /// The counts.
 #[derive(Default)]
 pub struct Tally {
     pub books: usize,
     pub damaged_books: usize,
+    /// Books of edition 2 that are refused as one-sided.
+    pub one_sided_books: usize,
+    /// Books with rotations, with somebody alone on each side, and with both.
+    pub rotating_books: usize,
+    pub lonely_books: usize,
+    pub rotating_lonely_books: usize,
     pub matchings: usize,
     pub stable_matchings: usize,
     pub rotations: usize,
     pub sets: usize,
     pub sheets: usize,
-    /// Answers with U, D and F.
+    /// Answers with U, D and F, and students of stable matchings who are alone.
     pub letters: [usize; 3],
+    pub alone: usize,
+    /// Searches for a next mentor that one who is alone ends before one who is willing.
+    pub ended_searches: usize,
     /// Stable matchings with weights, the answers with U, D and F, and the sums of their totals and of the grades.
     pub weighted_matchings: usize,
     pub weighted_letters: [usize; 3],
@@ -138,8 +91,8 @@ impl Tally {
         (1..RULES).map(|rule| self.met(rule)).sum()
     }
 
-    /// Adds the calls of another tally.
-    pub fn add_calls(&mut self, other: &Tally) {
+    /// Adds the calls and the differences of another tally.
+    pub fn add(&mut self, other: &Tally) {
         for (met, more) in self.met.iter_mut().flatten().zip(other.met.iter().flatten()) {
             *met += more;
         }
@@ -149,33 +102,20 @@ impl Tally {
         for (mixed, more) in self.mixed.iter_mut().zip(other.mixed) {
             *mixed += more;
         }
+        self.differences += other.differences;
     }
 
-    /// The calls that never gave a result or were never refused by a rule that they have, the refusals that they never
-    /// printed as a sheet, and the calls for a repair that never moved students and left others.
-    pub fn missing(&self) -> Vec<String> {
-        let mut missing = Vec::new();
-        for (call, takes_book, others) in CALLS {
-            let book = if takes_book { BOOK } else { &[] };
-            for &rule in [0].iter().chain(book).chain(others) {
-                if self.met[call as usize][rule] == 0 {
-                    missing.push(format!("{call:?} by rule {rule}"));
-                }
-            }
-        }
-        for (call, rules) in PRINTS {
-            for &rule in rules {
-                if self.printed[call as usize][rule] == 0 {
-                    missing.push(format!("{call:?} that prints the refusal by rule {rule}"));
-                }
-            }
-        }
-        for call in [Call::Repair, Call::WeightedRepair] {
-            if self.mixed(call) == 0 {
-                missing.push(format!("{call:?} that moves students and leaves others"));
-            }
-        }
-        missing
+    /// For books of an edition: the calls that never gave a result or were never refused by a rule that they have,
+    /// the refusals that they never printed as a sheet, and the calls for a repair that never moved students and left
+    /// others.
+    pub fn missing(&self, edition: Edition) -> Vec<String> {
+        let unmet = refused_by(edition).filter(|&(call, rule)| self.met[call as usize][rule] == 0);
+        let unprinted = prints(edition).filter(|&(call, rule)| self.printed[call as usize][rule] == 0);
+        let unmixed = [Call::Repair, Call::WeightedRepair].into_iter().filter(|&call| self.mixed(call) == 0);
+        let unmet = unmet.map(|(call, rule)| format!("{call:?} by rule {rule}"));
+        let unprinted = unprinted.map(|(call, rule)| format!("{call:?} that prints the refusal by rule {rule}"));
+        let unmixed = unmixed.map(|call| format!("{call:?} that moves students and leaves others"));
+        unmet.chain(unprinted).chain(unmixed).collect()
     }
 
     /// Counts a difference and prints it if it is one of the first; ends the program when there are many.
@@ -205,24 +145,19 @@ mod tests {
     /// What was never met is missed, and nothing else.
     #[test]
     fn what_was_never_met_is_missing() {
-        assert!(complete().missing().is_empty());
+        assert!(complete().missing(Edition::Two).is_empty());
         let mut tally = complete();
         tally.met[Call::Repair as usize][12] = 0;
-        assert_eq!(tally.missing(), ["Repair by rule 12"]);
+        assert_eq!(tally.missing(Edition::One), ["Repair by rule 12"]);
         tally.printed[Call::WeightedSheet as usize][17] = 0;
-        assert_eq!(tally.missing()[1..], ["WeightedSheet that prints the refusal by rule 17"]);
+        assert_eq!(tally.missing(Edition::One)[1..], ["WeightedSheet that prints the refusal by rule 17"]);
         tally.mixed[Call::WeightedRepair as usize] = 0;
-        assert_eq!(tally.missing()[2..], ["WeightedRepair that moves students and leaves others"]);
+        assert_eq!(tally.missing(Edition::Two)[2..], ["WeightedRepair that moves students and leaves others"]);
         for rule in 1..RULES {
             let mut tally = complete();
             tally.met.iter_mut().for_each(|rules| rules[rule] = 0);
-            assert!(!tally.missing().is_empty(), "rule {rule}");
+            assert_eq!(tally.missing(Edition::One).is_empty(), rule > 17, "rule {rule}");
+            assert!(!tally.missing(Edition::Two).is_empty(), "rule {rule}");
         }
-    }
-
-    /// The calls stand in the table in the order of their numbers.
-    #[test]
-    fn calls_stand_in_order() {
-        assert!(CALLS.iter().enumerate().all(|(at, (call, ..))| *call as usize == at));
     }
 }

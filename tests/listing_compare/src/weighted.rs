@@ -6,7 +6,7 @@ use crate::draw::Draw;
 use crate::tally::letter_place;
 use listing::asked::Asked;
 use listing::matching::Matching;
-use listing::people::Man;
+use listing::people::{Man, Woman};
 use listing::weights::Weights;
 
 /// Rooms that are enough for n up to 6: a matching and gains; a weighted sheet.
@@ -47,16 +47,20 @@ impl Both {
         self.tally.weighted_matchings += 1;
         let matching = stable.bytes();
         for man in Man::all(matching.len()) {
-            self.ask_weighted_pair(book, stable, weights, man);
+            match stable.woman_of(man) {
+                Some(woman) => self.ask_weighted_pair(book, stable, weights, (man, woman)),
+                None => {
+                    self.weighted_repair(book, &matching, weights, &[man.0, 0], ROOMS);
+                }
+            }
         }
         self.tally.weighted_grades += self.weighted_grade(book, &matching, weights).value;
         self.weighted_sheet(&[book.book(), &matching, weights].concat(), SHEET_ROOM);
     }
 
     /// Asks for the weighted repair of a man's pair, than which no stable matching without the pair weighs less.
-    fn ask_weighted_pair(&mut self, book: &Asked, stable: &Matching, weights: &[u8], man: Man) {
-        let request = [man.0, stable.woman_of(man).0];
-        let due = self.weighted_repair(book, &stable.bytes(), weights, &request, ROOMS);
+    fn ask_weighted_pair(&mut self, book: &Asked, stable: &Matching, weights: &[u8], (man, woman): (Man, Woman)) {
+        let due = self.weighted_repair(book, &stable.bytes(), weights, &[man.0, woman.0], ROOMS);
         self.tally.weighted_letters[letter_place(due.letter)] += 1;
         self.tally.weighted_totals += due.value;
         let weights = Weights::read(weights.len(), weights).expect("a weight for each man");

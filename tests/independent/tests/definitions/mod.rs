@@ -1,5 +1,6 @@
-//! Document 01's definitions taken word by word, for small n: every question is answered by going through all
-//! matchings. No algorithm is shared with the library. Men are document 01's students, women its mentors.
+//! Document 01's definitions, with those of W-203 for short lists, taken word by word, for small n: every question is
+//! answered by going through all matchings. No algorithm is shared with the library. Men are document 01's students,
+//! women its mentors.
 #![allow(dead_code)] // each test program uses a part
 
 pub mod book;
@@ -7,37 +8,46 @@ pub mod known;
 pub mod repairs;
 pub mod rotations;
 
-/// A matching: the woman of each man.
-pub type Matching = Vec<usize>;
+/// A matching: the woman of each man, if he has one.
+pub type Matching = Vec<Option<usize>>;
 
-/// The lists of both sides, best first.
+/// The lists of both sides, best first. In a market of edition 2 men may be without a woman.
 pub struct Market {
     pub n: usize,
+    pub partial: bool,
     pub men: Vec<Vec<usize>>,
     pub women: Vec<Vec<usize>>,
 }
 
 impl Market {
-    /// The market of 2n^2 list bytes.
-    pub fn new(n: usize, lists: &[u8]) -> Market {
-        let list = |k: usize| lists[k * n..(k + 1) * n].iter().map(|&e| e as usize).collect::<Vec<_>>();
-        Market { n, men: (0..n).map(list).collect(), women: (n..2 * n).map(list).collect() }
+    /// The market of 2n lists, the men's first.
+    pub fn new(partial: bool, lists: &[Vec<u8>]) -> Market {
+        let n = lists.len() / 2;
+        let list = |k: usize| lists[k].iter().map(|&e| e as usize).collect::<Vec<_>>();
+        Market { n, partial, men: (0..n).map(list).collect(), women: (n..2 * n).map(list).collect() }
     }
 
-    /// The place of a woman on a man's list.
-    pub fn place(&self, man: usize, woman: usize) -> usize {
-        self.men[man].iter().position(|&w| w == woman).unwrap()
+    /// The place of a man's woman on his list; whoever is alone comes after all places.
+    pub fn place(&self, man: usize, woman: Option<usize>) -> usize {
+        let place = |w| self.men[man].iter().position(|&x| x == w).unwrap();
+        woman.map_or(self.men[man].len(), place)
     }
 
-    /// Whether a woman ranks one man above another.
-    pub fn woman_prefers(&self, woman: usize, man: usize, other: usize) -> bool {
+    /// Whether a man and a woman list each other.
+    pub fn list_each_other(&self, man: usize, woman: usize) -> bool {
+        self.men[man].contains(&woman) && self.women[woman].contains(&man)
+    }
+
+    /// Whether a woman ranks one man whom she lists above another, or above being alone.
+    pub fn woman_prefers(&self, woman: usize, man: usize, other: Option<usize>) -> bool {
         let place = |m| self.women[woman].iter().position(|&x| x == m).unwrap();
-        place(man) < place(other)
+        other.map_or(true, |other| place(man) < place(other))
     }
 
-    /// A pair blocks a matching when both rank each other above their partners in it.
+    /// A pair blocks if each lists the other and each is alone or prefers the other.
     pub fn blocks(&self, matching: &Matching, man: usize, woman: usize) -> bool {
-        self.place(man, woman) < self.place(man, matching[man])
+        self.list_each_other(man, woman)
+            && self.place(man, Some(woman)) < self.place(man, matching[man])
             && self.woman_prefers(woman, man, husband(matching, woman))
     }
 
@@ -48,9 +58,41 @@ impl Market {
         Some((man, *woman))
     }
 
+    /// Bytes as a matching, or the first of rules 8, 9 and 19 that they break, with its place.
+    pub fn matching(&self, bytes: &[u8]) -> Result<Matching, (usize, usize)> {
+        if bytes.len() != self.n {
+            return Err((8, 0));
+        }
+        let woman = |byte: u8| if byte == 255 && self.partial { None } else { Some(byte as usize) };
+        let matching: Matching = bytes.iter().map(|&byte| woman(byte)).collect();
+        let clashes = |i: &usize| matching[*i].is_some_and(|w| w >= self.n || matching[..*i].contains(&Some(w)));
+        if let Some(first) = (0..self.n).find(clashes) {
+            return Err((9, first));
+        }
+        if (0..self.n).any(|i| matching[i].is_some_and(|w| !self.list_each_other(i, w))) {
+            return Err((19, 0));
+        }
+        Ok(matching)
+    }
+
+    /// All matchings: bytes from 0 to n - 1, in edition 2 also 255, that break none of these rules.
+    pub fn matchings(&self) -> Vec<Matching> {
+        let mut all: Vec<Vec<u8>> = vec![vec![]];
+        for _ in 0..self.n {
+            let byte = (0..self.n as u8).chain(self.partial.then_some(255));
+            let left = |begun: &[u8], byte: u8| byte == 255 || !begun.contains(&byte);
+            let longer = |begun: &Vec<u8>| {
+                let next = byte.clone().filter(|&byte| left(begun, byte));
+                next.map(|byte| [&begun[..], &[byte]].concat()).collect::<Vec<_>>()
+            };
+            all = all.iter().flat_map(longer).collect();
+        }
+        all.iter().filter_map(|bytes| self.matching(bytes).ok()).collect()
+    }
+
     /// All matchings that no pair blocks.
     pub fn stable_matchings(&self) -> Vec<Matching> {
-        permutations(self.n).into_iter().filter(|m| self.first_blocking(m).is_none()).collect()
+        self.matchings().into_iter().filter(|m| self.first_blocking(m).is_none()).collect()
     }
 
     /// The one of these matchings in which each man has the best woman that any of them gives.
@@ -73,9 +115,9 @@ impl Market {
     }
 }
 
-/// The man of a woman.
-pub fn husband(matching: &Matching, woman: usize) -> usize {
-    matching.iter().position(|&w| w == woman).unwrap()
+/// The man of a woman, if she has one.
+pub fn husband(matching: &Matching, woman: usize) -> Option<usize> {
+    matching.iter().position(|&w| w == Some(woman))
 }
 
 /// The number of men whose women differ.
@@ -88,18 +130,19 @@ pub fn weight_moved(one: &Matching, other: &Matching, weights: &[u8]) -> usize {
     (0..weights.len()).filter(|&i| one[i] != other[i]).map(|i| weights[i] as usize).sum()
 }
 
-/// All orders of 0 to n - 1.
-pub fn permutations(n: usize) -> Vec<Vec<usize>> {
-    let mut all = vec![vec![]];
+/// All lists without repeats of 0 to n - 1, of every length.
+pub fn short_lists(n: usize) -> Vec<Vec<u8>> {
+    let (mut all, mut last) = (vec![vec![]], vec![vec![]]);
     for _ in 0..n {
         let longer =
-            |p: &Vec<usize>| (0..n).filter(|x| !p.contains(x)).map(|x| [&p[..], &[x]].concat()).collect::<Vec<_>>();
-        all = all.iter().flat_map(longer).collect();
+            |p: &Vec<u8>| (0..n as u8).filter(|x| !p.contains(x)).map(|x| [&p[..], &[x]].concat()).collect::<Vec<_>>();
+        last = last.iter().flat_map(longer).collect();
+        all.extend(last.clone());
     }
     all
 }
 
-/// Numbers as bytes.
-pub fn bytes(numbers: &[usize]) -> Vec<u8> {
-    numbers.iter().map(|&x| x as u8).collect()
+/// A matching as bytes, 255 for a man without a woman.
+pub fn bytes(matching: &Matching) -> Vec<u8> {
+    matching.iter().map(|woman| woman.map_or(255, |w| w as u8)).collect()
 }

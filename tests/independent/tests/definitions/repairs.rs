@@ -1,5 +1,5 @@
 //! Repairs, fixed pairs and the grade in the words of document 01, over the list of all stable matchings. Each man has
-//! a weight (W-201); document 01 itself counts men, so there each weighs 1.
+//! a weight (W-201); document 01 itself counts men, so there each weighs 1. A man who is alone is no pair (W-203).
 
 use super::{weight_moved, Market, Matching};
 
@@ -48,7 +48,7 @@ impl Market {
     /// matching without it moves men of at most that total weight besides the asking one.
     pub fn grade(&self, stable: &[Matching], given: &Matching, weights: &[u8]) -> usize {
         let enough = |b: usize| {
-            (0..self.n).all(|man| {
+            (0..self.n).filter(|&man| given[man].is_some()).all(|man| {
                 let others = |m: &Matching| weight_moved(m, given, weights) - weights[man] as usize;
                 let mut without = stable.iter().filter(|m| m[man] != given[man]).peekable();
                 without.peek().is_none() || without.any(|m| others(m) <= b)
@@ -61,11 +61,15 @@ impl Market {
     pub fn sheet(&self, stable: &[Matching], rotations: usize, given: &Matching, weights: &[u8]) -> String {
         let mut sheet = format!("{} {} {}\n", self.n, rotations, self.grade(stable, given, weights));
         for man in 0..self.n {
+            let Some(woman) = given[man] else {
+                sheet += &format!("{man} - N 0\n");
+                continue;
+            };
             let (letter, moved) = match self.answer(stable, given, weights, man) {
                 Some((letter, repaired)) => (letter as char, weight_moved(&repaired, given, weights)),
                 None => ('F', 0),
             };
-            sheet += &format!("{} {} {} {}\n", man, given[man], letter, moved);
+            sheet += &format!("{man} {woman} {letter} {moved}\n");
         }
         sheet
     }

@@ -1,4 +1,4 @@
-//! Rotations, their numbers, precedence and closed sets in the words of document 01.
+//! Rotations, their numbers, precedence and closed sets in the words of document 01 and of W-203.
 
 use super::{husband, Market, Matching};
 use std::collections::HashSet;
@@ -7,10 +7,13 @@ use std::collections::HashSet;
 pub type Rotation = Vec<(usize, usize)>;
 
 impl Market {
-    /// The first woman below the present one on the man's list who ranks him above her own present man.
+    /// The first woman below the present one on the man's list who ranks him above her own present man. One who is
+    /// alone ends the search: there is none.
     pub fn next_woman(&self, matching: &Matching, man: usize) -> Option<usize> {
-        let below = &self.men[man][self.place(man, matching[man]) + 1..];
-        below.iter().copied().find(|&w| self.woman_prefers(w, man, husband(matching, w)))
+        let present = self.place(man, Some(matching[man]?));
+        let willing_or_alone = |w: &usize| self.woman_prefers(*w, man, husband(matching, *w));
+        let first = self.men[man][present + 1..].iter().copied().find(willing_or_alone);
+        first.filter(|&w| husband(matching, w).is_some())
     }
 
     /// The rotations exposed in a stable matching, by lowest man.
@@ -20,11 +23,11 @@ impl Market {
 
     /// The rotation of which this man is the lowest.
     fn rotation_from(&self, matching: &Matching, lowest: usize) -> Option<Rotation> {
-        let mut rotation = vec![(lowest, matching[lowest])];
+        let mut rotation = vec![(lowest, matching[lowest]?)];
         loop {
             let (man, _) = rotation[rotation.len() - 1];
             let next = self.next_woman(matching, man)?;
-            let follower = husband(matching, next);
+            let follower = husband(matching, next)?;
             if follower == lowest {
                 return Some(rotation);
             }
@@ -71,7 +74,7 @@ impl Market {
 pub fn eliminated(matching: &Matching, rotation: &Rotation) -> Matching {
     let mut new = matching.clone();
     for (k, &(man, _)) in rotation.iter().enumerate() {
-        new[man] = rotation[(k + 1) % rotation.len()].1;
+        new[man] = Some(rotation[(k + 1) % rotation.len()].1);
     }
     new
 }

@@ -1,6 +1,7 @@
-//! Books and matchings of the papers, and the sheet as text.
+//! Books and matchings of the papers, books of short lists, and the sheet as text.
+#![allow(dead_code)] // each test program uses a part
 
-use listing::asked::{sheet, write_book};
+use listing::asked::{sheet, write_book, Asked};
 use listing::matching::Matching;
 
 /// Table 1 of document 000 as a book, with the matching 4 5 6 3 1 2 0 after it.
@@ -22,6 +23,17 @@ pub fn book_of(n: usize, lists: &str) -> Vec<u8> {
     out
 }
 
+/// The book of edition 2 from the lists of n students and n mentors, one digit an entry, `-` for a list without any.
+pub fn short_book_of(lists: &str) -> Vec<u8> {
+    let lists: Vec<Vec<u8>> = lists.split_whitespace().map(digits).collect();
+    let (mut directory, mut offset) = (vec![], 2 + 4 * lists.len());
+    for list in &lists {
+        directory.extend([offset as u8, 0, list.len() as u8, 0]);
+        offset += list.len();
+    }
+    [&[2, lists.len() as u8 / 2], &directory[..], &lists.concat()].concat()
+}
+
 /// Table 1 as a book.
 pub fn table_1() -> &'static [u8] {
     &TABLE_1_AND_MATCHING_5[..156]
@@ -29,7 +41,7 @@ pub fn table_1() -> &'static [u8] {
 
 /// The given matching M5.
 pub fn matching_5() -> Matching {
-    Matching::read(7, &MATCHING_5).expect("a matching")
+    Matching::read(&Asked::new(table_1()).listing().lists, &MATCHING_5).expect("a matching")
 }
 
 /// The sheet of a book and a matching.

@@ -1,0 +1,75 @@
+//! The counts as they are printed.
+
+use crate::calls::{Call, RULES};
+use crate::tally::Tally;
+use listing::book::Edition;
+
+/// What is counted of books of edition 2 alone.
+pub fn short(tally: &Tally) {
+    println!("edition 2: books refused as one-sided {}", tally.one_sided_books);
+    println!("books with rotations {}", tally.rotating_books);
+    println!("books with somebody alone on each side {}", tally.lonely_books);
+    println!("books with both {}", tally.rotating_lonely_books);
+    println!("students alone {}", tally.alone);
+    println!("searches that a mentor who is alone ends before a willing one {}", tally.ended_searches);
+}
+
+/// The counts of the first part.
+pub fn sound(tally: &Tally) {
+    let [up, down, fixed] = tally.letters;
+    println!("books {}", tally.books);
+    println!("matchings {}", tally.matchings);
+    println!("stable matchings {}", tally.stable_matchings);
+    println!("answers U {up}");
+    println!("answers D {down}");
+    println!("answers F {fixed}");
+    println!("refusals {}", tally.refusals());
+    println!("rotations {}", tally.rotations);
+    println!("sets {}", tally.sets);
+    println!("sheets {}", tally.sheets);
+    let [up, down, fixed] = tally.weighted_letters;
+    println!("weighted matchings {}", tally.weighted_matchings);
+    println!("weighted answers U {up}");
+    println!("weighted answers D {down}");
+    println!("weighted answers F {fixed}");
+    println!("weighted totals {}", tally.weighted_totals);
+    println!("weighted grades {}", tally.weighted_grades);
+    println!("differences {}", tally.differences);
+}
+
+/// The counts of the second part.
+pub fn beyond(words: &str, tally: &Tally) {
+    println!("{words}: books {}", tally.books);
+    println!("damaged copies {}", tally.damaged_books);
+    println!("calls {}", tally.calls());
+    println!("refusals {}", tally.refusals());
+    println!("differences {}", tally.differences);
+}
+
+/// The counts of the third part.
+pub fn editions(tally: &Tally) {
+    println!("books in both editions {}", tally.books);
+    println!("calls with each {}", tally.calls());
+    println!("differences {}", tally.differences);
+}
+
+/// How often each rule was met in the first two parts, and how many repairs moved students and left others.
+pub fn rules(tally: &Tally) {
+    println!("calls of both parts {}", tally.calls());
+    for rule in 1..RULES {
+        println!("rule {rule} {}", tally.met(rule));
+    }
+    println!("sheets that print a refusal {}", tally.printed(Call::Sheet));
+    println!("weighted sheets that print a refusal {}", tally.printed(Call::WeightedSheet));
+    println!("repairs that move students and leave others {}", tally.mixed(Call::Repair));
+    println!("weighted repairs that move students and leave others {}", tally.mixed(Call::WeightedRepair));
+}
+
+/// What was never met in an edition; whether there is such.
+pub fn missing(edition: Edition, tally: &Tally) -> bool {
+    let missing = tally.missing(edition);
+    for what in &missing {
+        println!("never met in edition {edition:?}: {what}");
+    }
+    !missing.is_empty()
+}
