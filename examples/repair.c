@@ -3,7 +3,8 @@
  *     gcc -Iinclude examples/repair.c target/staticlib/libplacement.a -o target/repair
  *     target/repair FILE STUDENT MENTOR
  *
- * FILE holds a book and after it the matching, as the sheet program takes them; examples/table-1 is such a file. */
+ * FILE holds a book of either edition and after it the matching, as the sheet program takes them; examples/table-1 and
+ * examples/short-lists are such files. */
 #include <placement.h>
 
 #include <stdio.h>
@@ -12,6 +13,22 @@
 /* The largest book with its matching, and one byte more, so that a matching that is too long is seen. */
 #define LARGEST_INPUT (PLACEMENT_LARGEST_BOOK + PLACEMENT_LARGEST_N + 1)
 
+/* A number of the directory: two bytes, low byte first. */
+static size_t number_at(const uint8_t *bytes)
+{
+    return bytes[0] + 256 * (size_t)bytes[1];
+}
+
+/* Where the lists of a book of edition 2 end: its directory has 8 * n bytes, and its last four are the offset and
+ * the length of the last list. A directory that says less than its own end is wrong, and the library has to see all
+ * of it. */
+static size_t lists_end(const uint8_t *input, size_t n)
+{
+    size_t directory_end = 2 + 8 * n;
+    size_t end = n == 0 ? 2 : number_at(input + directory_end - 4) + number_at(input + directory_end - 2);
+    return end < directory_end ? directory_end : end;
+}
+
 /* The bytes of the book at the front of the input. All of it, where its first two bytes are no good or it is too
  * short: the library then says what is wrong. */
 static size_t book_length(const uint8_t *input, size_t length)
@@ -19,8 +36,14 @@ static size_t book_length(const uint8_t *input, size_t length)
     if (length < 2) {
         return length;
     }
-    struct placement_reply size = placement_book_size(input[1]);
-    return size.number == PLACEMENT_FINE && size.value < length ? size.value : length;
+    size_t n = input[1], size = length;
+    struct placement_reply complete = placement_book_size(n);
+    if (input[0] == 1 && complete.number == PLACEMENT_FINE) {
+        size = complete.value;
+    } else if (input[0] == 2 && 2 + 8 * n <= length) {
+        size = lists_end(input, n);
+    }
+    return size < length ? size : length;
 }
 
 /* Reads a number of a student or mentor. A request has a byte for each, so one that no byte holds would become
@@ -37,7 +60,15 @@ static int read_number(const char *text, uint8_t *number)
     return 1;
 }
 
-static void print_refusal(struct placement_reply reply)
+/* The mentor of a student as text, `-` where he has none. */
+static const char *mentor_text(uint8_t mentor)
+{
+    static char text[4];
+    snprintf(text, sizeof text, "%u", mentor);
+    return mentor == PLACEMENT_NOBODY ? "-" : text;
+}
+
+static void print_refusal(struct placement_reply reply, uint8_t student, const uint8_t *matching)
 {
     switch (reply.number) {
     case PLACEMENT_UNSTABLE:
@@ -47,22 +78,21 @@ static void print_refusal(struct placement_reply reply)
         printf("refused: no student or no mentor has that number\n");
         break;
     case PLACEMENT_APART:
-        printf("refused: the two are not together\n");
+        printf("refused: the two are not together; student %u has mentor %s\n", student,
+               mentor_text(matching[student]));
         break;
     default:
         printf("refused %zu, place %zu\n", reply.number, reply.place);
     }
 }
 
-static int print_answer(struct placement_reply reply, const uint8_t *old, const uint8_t *new, const int8_t *gains, size_t n)
+/* Prints an answer that is no refusal. Whoever has no mentor gains nothing and is not named. */
+static void print_answer(struct placement_reply reply, const uint8_t *old, const uint8_t *new, const int8_t *gains,
+                         size_t n)
 {
-    if (reply.number != PLACEMENT_FINE) {
-        print_refusal(reply);
-        return 1;
-    }
     if (reply.letter == 'F') {
         printf("fixed: every stable matching holds the pair\n");
-        return 0;
+        return;
     }
     printf("repair %s moves %zu students\n", reply.letter == 'U' ? "up" : "down", reply.value);
     for (size_t i = 0; i < n; i++) {
@@ -70,7 +100,6 @@ static int print_answer(struct placement_reply reply, const uint8_t *old, const 
             printf("student %zu: mentor %u to %u, %+d\n", i, old[i], new[i], gains[i]);
         }
     }
-    return 0;
 }
 
 int main(int argc, char **argv)
@@ -97,5 +126,10 @@ int main(int argc, char **argv)
     const uint8_t *matching = input + book;
     struct placement_reply reply = placement_repair(input, book, matching, length - book, request, sizeof request,
                                                     repaired, sizeof repaired, gains, sizeof gains);
-    return print_answer(reply, matching, repaired, gains, length - book);
+    if (reply.number != PLACEMENT_FINE) {
+        print_refusal(reply, request[0], matching);
+        return 1;
+    }
+    print_answer(reply, matching, repaired, gains, length - book);
+    return 0;
 }

@@ -17,6 +17,7 @@ import sys
 sys.dont_write_bytecode = True
 from cases import book_calls, matching_calls, repair_calls, rotation_calls, sheet_calls
 from cases import weighted_calls, weighted_sheet_calls
+from cases import short_book_calls, short_lists, short_matching_calls, short_sheet_calls
 
 CASES = [
     *book_calls.CASES,
@@ -26,6 +27,10 @@ CASES = [
     *sheet_calls.CASES,
     *weighted_calls.CASES,
     *weighted_sheet_calls.CASES,
+    *short_book_calls.CASES,
+    *short_matching_calls.CASES,
+    *short_sheet_calls.CASES,
+    *short_lists.CASES,
 ]
 # What the program takes
 LARGEST = 524288

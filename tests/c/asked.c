@@ -28,7 +28,7 @@ struct placement_reply weighted_repair(const struct asked *a, struct lent *out, 
                                   fenced(3, a->request, a->request_length), a->request_length, lend(out, a->room),
                                   a->room, (int8_t *)lend(gains, a->gains_room), a->gains_room);
     recount(reply, a, gains);
-    return reply;
+    return after_call(after_call(reply, out), gains);
 }
 
 struct placement_reply weighted_grade(const struct asked *a)

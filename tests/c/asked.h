@@ -15,7 +15,7 @@ struct asked {
 struct asked asked_of(struct book book, const uint8_t *matching, const uint8_t *weights, const uint8_t *request);
 
 /* The repair, into buffers between guard bytes, and the grade. Each input ends at a page that may not be read. What a
- * repair reports is recounted from the gains. */
+ * repair reports is recounted from the gains; a refusal has to write nothing. */
 struct placement_reply weighted_repair(const struct asked *asked, struct lent *out, struct lent *gains);
 struct placement_reply weighted_grade(const struct asked *asked);
 

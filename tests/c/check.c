@@ -16,6 +16,12 @@ struct placement_reply refused(size_t number, size_t place)
     return r;
 }
 
+struct placement_reply blocked(size_t student, size_t mentor)
+{
+    struct placement_reply r = {10, student, mentor, 0, 0};
+    return r;
+}
+
 struct placement_reply value(size_t value)
 {
     struct placement_reply r = {0, 0, 0, 0, value};
@@ -106,4 +112,12 @@ void wrote_at(const char *file, int line, const struct lent *buffer, const void 
             return;
         }
     }
+}
+
+struct placement_reply after_call(struct placement_reply reply, const struct lent *buffer)
+{
+    if (reply.number != PLACEMENT_FINE) {
+        WROTE_NOTHING(buffer);
+    }
+    return reply;
 }

@@ -12,8 +12,9 @@
 /* How many checks were made, and how many failed. */
 extern unsigned long checks, failures;
 
-/* Expected replies. */
+/* Expected replies; `blocked` is that of rule 10. */
 struct placement_reply refused(size_t number, size_t place);
+struct placement_reply blocked(size_t student, size_t mentor);
 struct placement_reply value(size_t value);
 struct placement_reply answer(char letter, size_t distance);
 
@@ -44,6 +45,9 @@ void wrote_at(const char *file, int line, const struct lent *buffer, const void 
 #define WROTE(buffer, due, length) wrote_at(__FILE__, __LINE__, (buffer), (due), (length))
 #define WROTE_NOTHING(buffer) wrote_at(__FILE__, __LINE__, (buffer), "", 0)
 
+/* Where the call refused, checks that it wrote nothing to the buffer. Gives the reply back. */
+struct placement_reply after_call(struct placement_reply reply, const struct lent *buffer);
+
 /* The tests, one file each. */
 void test_book(void);
 void test_writer(void);
@@ -55,6 +59,12 @@ void test_sheet(void);
 void test_weights(void);
 void test_weight_rules(void);
 void test_weighted_sheet(void);
+void test_short_book(void);
+void test_short_matching(void);
+void test_short_repair(void);
+void test_short_rules(void);
+void test_short_sheet(void);
+void test_editions(void);
 void test_header(void);
 
 #endif

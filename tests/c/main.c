@@ -15,6 +15,12 @@ int main(void)
     test_weights();
     test_weight_rules();
     test_weighted_sheet();
+    test_short_book();
+    test_short_matching();
+    test_short_repair();
+    test_short_rules();
+    test_short_sheet();
+    test_editions();
     test_header();
     printf("C: %lu checks, %lu failed\n", checks, failures);
     return failures != 0;

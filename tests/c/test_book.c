@@ -1,4 +1,4 @@
-/* Rules 1 to 7 of a book, its size, and one person's list. */
+/* Rules 1 to 7 of a book of edition 1, its size, and one person's list. */
 #include "books.h"
 #include "check.h"
 
@@ -17,12 +17,12 @@ static struct placement_reply check_book(struct book book)
 /* Rules 1 to 4: the order is under 2 bytes, then 2, 3, 1, 4. */
 static void heads(void)
 {
-    static const uint8_t none[3] = {1, 0, 0}, wrong_edition[2] = {2, 0}, both[2] = {0, 200}, crowd[3] = {1, 65, 0};
-    static const uint8_t largest[2] = {1, 255}, only_head[2] = {1, 1}, edition_2[1] = {2}, edition_0[12] = {0, 1};
+    static const uint8_t none[3] = {1, 0, 0}, wrong_edition[2] = {3, 0}, both[2] = {0, 200}, crowd[3] = {1, 65, 0};
+    static const uint8_t largest[2] = {1, 255}, only_head[2] = {1, 1}, edition_3[1] = {3}, edition_0[12] = {0, 1};
     EXPECT(placement_check_book(NULL, 0), refused(1, 0));
     EXPECT(placement_check_book(none, 0), refused(1, 0));
     EXPECT(check(none, 1), refused(1, 1));
-    EXPECT(check(edition_2, 1), refused(1, 1));
+    EXPECT(check(edition_3, 1), refused(1, 1));
     EXPECT(check(wrong_edition, 2), refused(2, 0));
     EXPECT(check(both, 2), refused(2, 0));
     EXPECT(check(edition_0, 12), refused(2, 0));

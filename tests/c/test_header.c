@@ -4,18 +4,19 @@
 
 static struct lent out, gains;
 
-/* The words of document 01's table, in its order, and that of W-201. */
+/* The words of document 01's table, in its order, and those of W-201 and W-203. */
 static void words(void)
 {
-    static const int numbers[18] = {PLACEMENT_FINE,     PLACEMENT_SHORT,     PLACEMENT_EDITION,  PLACEMENT_CROWD,
+    static const int numbers[20] = {PLACEMENT_FINE,     PLACEMENT_SHORT,     PLACEMENT_EDITION,  PLACEMENT_CROWD,
                                     PLACEMENT_OVERLONG, PLACEMENT_DIRECTORY, PLACEMENT_STRANGER, PLACEMENT_REPEAT,
                                     PLACEMENT_LENGTH,   PLACEMENT_CLASH,     PLACEMENT_UNSTABLE, PLACEMENT_UNKNOWN,
                                     PLACEMENT_APART,    PLACEMENT_ONE_PAIR,  PLACEMENT_SHEET,    PLACEMENT_MARKS,
-                                    PLACEMENT_OPEN,     PLACEMENT_WEIGHTS};
-    for (int number = 0; number < 18; number++) {
+                                    PLACEMENT_OPEN,     PLACEMENT_WEIGHTS,   PLACEMENT_ONE_SIDED, PLACEMENT_UNLISTED};
+    for (int number = 0; number < 20; number++) {
         HOLDS(numbers[number] == number);
     }
-    HOLDS(PLACEMENT_VERSION_MAJOR == 1 && PLACEMENT_VERSION_MINOR >= 1);
+    HOLDS(PLACEMENT_VERSION_MAJOR == 1 && PLACEMENT_VERSION_MINOR >= 2);
+    HOLDS(PLACEMENT_NOBODY == 255);
 }
 
 /* The repair of Table 1's matching for a request of so many of these bytes, with result buffers of so many entries. */
@@ -31,8 +32,9 @@ static void each_rule(void)
 {
     static const uint8_t pair[3] = {0, 4, 0}, apart[2] = {0, 5}, nobody[2] = {7, 4}, open[6] = {0, 0, 1, 0, 0, 0};
     static const uint8_t clash[7] = {4, 5, 6, 3, 1, 2, 4}, exchanged[7] = {5, 4, 6, 1, 3, 0, 2}, two[6] = {2};
-    struct book book = book_of(7, table_1_lists), edition = with(book, 0, 2), crowd = with(book, 1, 65);
+    struct book book = book_of(7, table_1_lists), edition = with(book, 0, 3), crowd = with(book, 1, 65);
     struct book directory = with(book, 2, 0), stranger = with(book, 58, 7), repeat = with(book, 59, book.bytes[58]);
+    struct book one_sided = short_book(1, "0 -"), nobody_listed = short_book(1, "- -");
     struct placement_reply unstable = {PLACEMENT_UNSTABLE, 3, 3, 0, 0};
     EXPECT(placement_check_book(book.bytes, 156), value(7));
     EXPECT(placement_check_book(book.bytes, 155), refused(PLACEMENT_SHORT, 155));
@@ -50,6 +52,8 @@ static void each_rule(void)
     EXPECT(repair(table_1_m5, 7, apart, 2, 7), refused(PLACEMENT_APART, 0));
     EXPECT(repair(table_1_m5, 7, pair, 2, 6), refused(PLACEMENT_SHEET, 0));
     EXPECT(placement_weighted_grade(book.bytes, 156, table_1_m5, 7, pair, 3), refused(PLACEMENT_WEIGHTS, 0));
+    EXPECT(placement_check_book(one_sided.bytes, 11), refused(PLACEMENT_ONE_SIDED, 0));
+    EXPECT(placement_grade(nobody_listed.bytes, 10, pair, 1), refused(PLACEMENT_UNLISTED, 0));
     EXPECT(placement_set_to_matching(book.bytes, 156, two, 6, lend(&out, 7), 7), refused(PLACEMENT_MARKS, 0));
     EXPECT(placement_set_to_matching(book.bytes, 156, open, 6, lend(&out, 7), 7), refused(PLACEMENT_OPEN, 0));
     WROTE_NOTHING(&out);

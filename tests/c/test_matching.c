@@ -11,13 +11,6 @@ static struct placement_reply check(struct book book, const uint8_t *matching, s
     return placement_check_matching(fenced(0, book.bytes, book.length), book.length, fenced(1, matching, length), length);
 }
 
-/* The reply of rule 10. */
-static struct placement_reply blocked(size_t student, size_t mentor)
-{
-    struct placement_reply r = {10, student, mentor, 0, 0};
-    return r;
-}
-
 static void stable(void)
 {
     static const uint8_t none[2] = {1, 0}, zero[1] = {0};

@@ -25,7 +25,7 @@ static struct placement_reply repair_in(struct book book, const uint8_t *matchin
         placement_repair(bytes, book.length, fenced(1, matching, length), length, fenced(2, request, request_length),
                          request_length, lend(&out, room), room, (int8_t *)lend(&gains, gains_room), gains_room);
     recount(reply, book.n);
-    return reply;
+    return after_call(after_call(reply, &out), &gains);
 }
 
 /* The repair of a student's pair with buffers of n entries. */

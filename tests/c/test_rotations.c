@@ -4,13 +4,10 @@
 
 static struct lent out;
 
-/* Table 1: rotation 1 is document 01's; the others follow from Table 2 of document 000. */
-static const uint8_t table_1_rotations[32] = {2, 0, 5, 6, 2, 3, 1, 4, 6, 5, 5, 0, 2, 0, 2, 5,
-                                              4, 2, 0, 4, 4, 1, 2, 2, 6, 6, 0, 2, 1, 5, 3, 3};
-
 static struct placement_reply list(struct book book, size_t room)
 {
-    return placement_rotations(fenced(0, book.bytes, book.length), book.length, lend(&out, room), room);
+    const uint8_t *bytes = fenced(0, book.bytes, book.length);
+    return after_call(placement_rotations(bytes, book.length, lend(&out, room), room), &out);
 }
 
 static struct placement_reply count(struct book book)
@@ -31,7 +28,7 @@ static void counts(void)
     EXPECT(count(cyclic_64()), value(63));
     EXPECT(placement_rotation_count(NULL, 0), refused(1, 0));
     EXPECT(placement_rotation_count(table_1.bytes, 155), refused(1, 155));
-    EXPECT(count(with(table_1, 0, 2)), refused(2, 0));
+    EXPECT(count(with(table_1, 0, 3)), refused(2, 0));
     EXPECT(count(with(table_1, 1, 65)), refused(3, 1));
     EXPECT(count(with(table_1, 1, 6)), refused(4, 2 + 8 * 6 + 2 * 36));
     EXPECT(count(with(table_1, 54, 0)), refused(5, 54));
@@ -49,7 +46,7 @@ static void lists(void)
     WROTE(&out, table_1_rotations, 32);
     EXPECT(list(table_1, 31), refused(14, 0));
     EXPECT(placement_rotations(table_1.bytes, 156, NULL, 0), refused(14, 0));
-    EXPECT(list(with(table_1, 0, 2), 0), refused(2, 0));
+    EXPECT(list(with(table_1, 0, 3), 0), refused(2, 0));
     EXPECT(placement_rotations(NULL, 0, NULL, 0), refused(1, 0));
     WROTE_NOTHING(&out);
     EXPECT(placement_rotations(none, 2, NULL, 0), value(0));
@@ -73,21 +70,22 @@ static void lowest_first(void)
     EXPECT(placement_precedes(book.bytes, book.length, 1, 0), value(0));
 }
 
-/* Cyclic lists of 64: rotation k takes every student from place k to place k + 1. */
-static void cyclic(void)
+/* Cyclic lists of 64, and short ones: rotation k takes every student from place k to place k + 1. */
+static void cyclic(struct book book, size_t rotations)
 {
     static uint8_t due[63 * 129];
+    const size_t length = rotations * 129;
     size_t at = 0;
-    for (size_t k = 0; k < 63; k++) {
+    for (size_t k = 0; k < rotations; k++) {
         due[at++] = 64;
         for (size_t i = 0; i < 64; i++) {
             due[at++] = (uint8_t)i;
             due[at++] = (uint8_t)((i + k) % 64);
         }
     }
-    EXPECT(list(cyclic_64(), sizeof due), value(63));
-    WROTE(&out, due, sizeof due);
-    EXPECT(list(cyclic_64(), sizeof due - 1), refused(14, 0));
+    EXPECT(list(book, length), value(rotations));
+    WROTE(&out, due, length);
+    EXPECT(list(book, length - 1), refused(14, 0));
     WROTE_NOTHING(&out);
 }
 
@@ -110,19 +108,13 @@ static void xor_lists(void)
     WROTE_NOTHING(&out);
 }
 
-/* Table 1: 0 before 1, 1 before 2 and 4, 2 before 3, 4 before 5. This gives its eleven closed sets. */
 static void order(void)
 {
-    static const char *const before[6] = {"", "0", "01", "012", "01", "014"};
     struct book table_1 = book_of(7, table_1_lists);
     const uint8_t *book = fenced(0, table_1.bytes, 156);
     for (size_t second = 0; second < 6; second++) {
         for (size_t first = 0; first < 6; first++) {
-            size_t yes = 0;
-            for (const char *digit = before[second]; *digit != 0; digit++) {
-                yes |= (size_t)(*digit - '0') == first;
-            }
-            EXPECT(placement_precedes(book, 156, first, second), value(yes));
+            EXPECT(placement_precedes(book, 156, first, second), value(table_1_precedes[first][second]));
         }
     }
     EXPECT(placement_precedes(book, 156, 6, 0), refused(11, 0));
@@ -147,13 +139,63 @@ static void order_of_large(void)
     EXPECT(placement_precedes(xor.bytes, 8706, 0, 2016), refused(11, 0));
 }
 
+/* Short lists. Of the six, students 0 and 1 exchange; the search of student 2 for a next mentor ends at mentor 4, who is
+ * alone, and so he and student 3 do not. Table 1 shortened has Table 1's rotations, whoever is alone beside them. */
+static void short_lists(void)
+{
+    static const uint8_t exchange[5] = {2, 0, 0, 1, 1};
+    struct book six = short_book(6, six_lists), table_1 = short_book(8, short_table_1_lists);
+    EXPECT(count(six), value(1));
+    EXPECT(list(six, 5), value(1));
+    WROTE(&out, exchange, 5);
+    EXPECT(list(six, 9), value(1));
+    WROTE(&out, exchange, 5);
+    EXPECT(list(six, 4), refused(14, 0));
+    WROTE_NOTHING(&out);
+    EXPECT(placement_precedes(six.bytes, six.length, 0, 0), value(0));
+    EXPECT(placement_precedes(six.bytes, six.length, 0, 1), refused(11, 0));
+    EXPECT(count(table_1), value(6));
+    EXPECT(list(table_1, 32), value(6));
+    WROTE(&out, table_1_rotations, 32);
+    for (size_t second = 0; second < 6; second++) {
+        for (size_t first = 0; first < 6; first++) {
+            struct placement_reply yes_or_no = value(table_1_precedes[first][second]);
+            EXPECT(placement_precedes(table_1.bytes, table_1.length, first, second), yes_or_no);
+        }
+    }
+    EXPECT(count(short_book(0, "")), value(0));
+    EXPECT(count(short_book(2, "- - - -")), value(0));
+    EXPECT(list(short_book(2, "- - - -"), 0), value(0));
+    EXPECT(count(short_book(2, "01 10 10 01")), value(1));
+    EXPECT(count(short_cyclic_64(8)), value(7));
+    EXPECT(count(short_xor_64(8)), value(8 * 28));
+}
+
+/* Books of edition 2 that are refused, and nothing is written. */
+static void short_refusals(void)
+{
+    struct book six = short_book(6, six_lists), one_sided = short_book(1, "- 0"), cut = six;
+    cut.length = 69;
+    EXPECT(count(cut), refused(1, 69));
+    EXPECT(list(cut, 0), refused(1, 69));
+    EXPECT(list(with(six, 46, 69), 5), refused(5, 46));
+    EXPECT(count(with(six, 69, 6)), refused(6, 69));
+    EXPECT(count(one_sided), refused(18, 0));
+    EXPECT(list(one_sided, 0), refused(18, 0));
+    EXPECT(placement_precedes(one_sided.bytes, one_sided.length, 0, 9), refused(18, 0));
+    WROTE_NOTHING(&out);
+}
+
 void test_rotations(void)
 {
     counts();
     lists();
     lowest_first();
-    cyclic();
+    cyclic(cyclic_64(), 63);
+    cyclic(short_cyclic_64(8), 7);
     xor_lists();
     order();
     order_of_large();
+    short_lists();
+    short_refusals();
 }

@@ -1,4 +1,4 @@
-/* From a closed set to its matching (15, 16, 14), and back (8, 9, 10, 14). */
+/* From a closed set to its matching (15, 16, 14), and back (8, 9, 19, 10, 14). */
 #include "books.h"
 #include "check.h"
 
@@ -8,14 +8,14 @@ static struct lent out;
 
 static struct placement_reply to_matching(struct book book, const uint8_t *set, size_t length, size_t room)
 {
-    const uint8_t *bytes = fenced(0, book.bytes, book.length);
-    return placement_set_to_matching(bytes, book.length, fenced(1, set, length), length, lend(&out, room), room);
+    const uint8_t *bytes = fenced(0, book.bytes, book.length), *marks = fenced(1, set, length);
+    return after_call(placement_set_to_matching(bytes, book.length, marks, length, lend(&out, room), room), &out);
 }
 
 static struct placement_reply to_set(struct book book, const uint8_t *matching, size_t length, size_t room)
 {
-    const uint8_t *bytes = fenced(0, book.bytes, book.length);
-    return placement_matching_to_set(bytes, book.length, fenced(1, matching, length), length, lend(&out, room), room);
+    const uint8_t *bytes = fenced(0, book.bytes, book.length), *mentors = fenced(1, matching, length);
+    return after_call(placement_matching_to_set(bytes, book.length, mentors, length, lend(&out, room), room), &out);
 }
 
 /* A set and its matching, both ways, with buffers that are right and longer. */
@@ -32,16 +32,10 @@ static void there_and_back(struct book book, const uint8_t *set, size_t count, c
     WROTE(&out, set, count);
 }
 
-/* The sets of Table 2 of document 000, and their matchings. */
-static void table_1_sets(void)
+static void sets_of_table_1(void)
 {
-    static const uint8_t sets[8][6] = {{0, 0, 0, 0, 0, 0}, {1, 0, 0, 0, 0, 0}, {1, 1, 0, 0, 0, 0}, {1, 1, 1, 0, 0, 0},
-                                       {1, 1, 1, 1, 0, 0}, {1, 1, 1, 0, 1, 0}, {1, 1, 1, 0, 1, 1}, {1, 1, 1, 1, 1, 1}};
-    static const uint8_t matchings[8][7] = {{5, 4, 6, 3, 1, 0, 2}, {2, 4, 6, 3, 1, 0, 5}, {2, 5, 6, 3, 1, 4, 0},
-                                            {4, 5, 6, 3, 1, 2, 0}, {1, 5, 6, 3, 4, 2, 0}, {4, 5, 0, 3, 1, 2, 6},
-                                            {4, 3, 0, 5, 1, 2, 6}, {1, 3, 0, 5, 4, 2, 6}};
     for (size_t k = 0; k < 8; k++) {
-        there_and_back(book_of(7, table_1_lists), sets[k], 6, matchings[k]);
+        there_and_back(book_of(7, table_1_lists), table_1_sets[k].set, 6, table_1_sets[k].matching);
     }
 }
 
@@ -132,12 +126,59 @@ static void large(void)
     WROTE_NOTHING(&out);
 }
 
+/* Short lists: the matchings of the six, and those of Table 1, in which student 7 is alone beside the others. */
+static void short_lists(void)
+{
+    static const uint8_t marks[2] = {0, 1};
+    struct book six = short_book(6, six_lists), nobody = short_book(0, ""), cyclic = short_cyclic_64(8);
+    there_and_back(six, &marks[0], 1, six_best);
+    there_and_back(six, &marks[1], 1, six_worst);
+    for (size_t k = 0; k < 8; k++) {
+        uint8_t matching[8];
+        memcpy(matching, table_1_sets[k].matching, 7);
+        matching[7] = 255;
+        there_and_back(short_book(8, short_table_1_lists), table_1_sets[k].set, 6, matching);
+    }
+    there_and_back(short_book(2, "- - - -"), marks, 0, (const uint8_t[2]){255, 255});
+    EXPECT(placement_set_to_matching(nobody.bytes, 2, NULL, 0, NULL, 0), value(0));
+    EXPECT(placement_matching_to_set(nobody.bytes, 2, NULL, 0, NULL, 0), value(0));
+    for (size_t steps = 0; steps < 8; steps++) {
+        uint8_t set[7] = {0}, shifted[64];
+        memset(set, 1, steps);
+        for (size_t i = 0; i < 64; i++) {
+            shifted[i] = (uint8_t)((i + steps) % 64);
+        }
+        there_and_back(cyclic, set, 7, shifted);
+    }
+}
+
+static void short_refusals(void)
+{
+    static const uint8_t set[2] = {1, 0}, two[1] = {2}, open[6] = {0, 0, 1, 0, 0, 0};
+    struct book six = short_book(6, six_lists), one_sided = short_book(1, "0 -");
+    EXPECT(to_matching(one_sided, two, 1, 0), refused(18, 0));
+    EXPECT(to_matching(six, set, 2, 6), refused(15, 0));
+    EXPECT(to_matching(six, set, 0, 6), refused(15, 0));
+    EXPECT(to_matching(six, two, 1, 6), refused(15, 0));
+    EXPECT(to_matching(short_book(8, short_table_1_lists), open, 6, 7), refused(16, 0));
+    EXPECT(to_matching(six, set, 1, 5), refused(14, 0));
+    EXPECT(to_set(one_sided, set, 1, 0), refused(18, 0));
+    EXPECT(to_set(six, six_best, 5, 1), refused(8, 0));
+    EXPECT(to_set(six, (const uint8_t[6]){0, 1, 2, 3, 6, 255}, 6, 1), refused(9, 4));
+    EXPECT(to_set(six, (const uint8_t[6]){0, 1, 2, 3, 4, 255}, 6, 0), refused(19, 0));
+    EXPECT(to_set(six, (const uint8_t[6]){0, 1, 3, 2, 255, 255}, 6, 0), blocked(2, 4));
+    EXPECT(to_set(six, six_best, 6, 0), refused(14, 0));
+    WROTE_NOTHING(&out);
+}
+
 void test_sets(void)
 {
-    table_1_sets();
+    sets_of_table_1();
     all_sets();
     bad_sets();
     bad_matchings();
     small();
     large();
+    short_lists();
+    short_refusals();
 }

@@ -1,29 +1,13 @@
 /* The sheet, byte for byte, and `refused N`. */
-#include "books.h"
-#include "check.h"
+#include "printed.h"
 
 #include <stdio.h>
-#include <string.h>
 
 static struct lent out;
 
-static struct placement_reply sheet(struct book input, size_t room)
-{
-    return placement_sheet(fenced(0, input.bytes, input.length), input.length, lend(&out, room), room);
-}
-
-/* The sheet of an input, with buffers that are exact, longer, of 1,024 bytes, and too short. */
 static void prints(struct book input, const char *due)
 {
-    size_t length = (size_t)strlen(due);
-    const size_t rooms[3] = {length, length + 1, 1024};
-    for (size_t k = 0; k < 3; k++) {
-        EXPECT(sheet(input, rooms[k]), value(length));
-        WROTE(&out, due, length);
-    }
-    EXPECT(sheet(input, length - 1), refused(14, 0));
-    EXPECT(placement_sheet(input.bytes, input.length, NULL, 0), refused(14, 0));
-    WROTE_NOTHING(&out);
+    prints_sheet(placement_sheet, input, due);
 }
 
 static void worked(void)
@@ -88,4 +72,6 @@ void test_sheet(void)
     refusals();
     prints_64(xor_64(), "64 2016 1", "D 2");
     prints_64(cyclic_64(), "64 63 63", "D 64");
+    prints_64(short_xor_64(8), "64 224 1", "D 2");
+    prints_64(short_cyclic_64(8), "64 7 63", "D 64");
 }

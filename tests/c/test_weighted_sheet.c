@@ -1,29 +1,14 @@
 /* The weighted sheet (W-201), byte for byte, and `refused N`. Table 1's totals are worked out in test_weights.c. */
-#include "books.h"
-#include "check.h"
+#include "printed.h"
 
 #include <stdio.h>
 #include <string.h>
 
 static struct lent out;
 
-static struct placement_reply sheet(struct book input, size_t room)
-{
-    return placement_weighted_sheet(fenced(0, input.bytes, input.length), input.length, lend(&out, room), room);
-}
-
-/* The sheet of an input, with buffers that are exact, longer, of the constant, and too short. */
 static void prints(struct book input, const char *due)
 {
-    size_t length = strlen(due);
-    const size_t rooms[3] = {length, length + 1, PLACEMENT_LARGEST_WEIGHTED_SHEET};
-    for (size_t k = 0; k < 3; k++) {
-        EXPECT(sheet(input, rooms[k]), value(length));
-        WROTE(&out, due, length);
-    }
-    EXPECT(sheet(input, length - 1), refused(14, 0));
-    EXPECT(placement_weighted_sheet(input.bytes, input.length, NULL, 0), refused(14, 0));
-    WROTE_NOTHING(&out);
+    prints_sheet(placement_weighted_sheet, input, due);
 }
 
 /* The book with a matching and weights after it, n bytes each. */
@@ -113,4 +98,6 @@ void test_weighted_sheet(void)
     prints_64(xor_64(), 255, "64 2016 255", "D 510");
     prints_64(cyclic_64(), 255, "64 63 16065", "D 16320");
     prints_64(cyclic_64(), 0, "64 63 0", "D 0");
+    prints_64(short_xor_64(8), 255, "64 224 255", "D 510");
+    prints_64(short_cyclic_64(8), 255, "64 7 16065", "D 16320");
 }

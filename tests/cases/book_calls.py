@@ -23,7 +23,7 @@ CHECKED = [
     ("n = 64, one byte short", FIRSTS[:8705], refused(1, 8705)),
     # 2 edition
     ("edition 0", put(TABLE_1, {0: 0}), refused(2)),
-    ("edition 2", put(TABLE_1, {0: 2}), refused(2)),
+    ("edition 3", put(TABLE_1, {0: 3}), refused(2)),
     ("edition 255, n = 0", [255, 0], refused(2)),
     # 3 crowd
     ("n = 65", put(TABLE_1, {1: 65}), refused(3, 1)),
@@ -58,8 +58,8 @@ CHECKED = [
     ("n = 64, last entry is the first of its list", put(FIRSTS, {8705: 63}), refused(7, 8705)),
     # Two rules broken: the order of the checks decides
     ("1 under 2 bytes before 2", [9], refused(1, 1)),
-    ("2 before 3", [2, 65], refused(2)),
-    ("2 before 1 under the size", [2, 7], refused(2)),
+    ("2 before 3", [3, 65], refused(2)),
+    ("2 before 1 under the size", [3, 7], refused(2)),
     ("2 before 4", [0, 0, 0], refused(2)),
     ("3 before 1", [1, 65], refused(3, 1)),
     ("3 before 4", firsts(65) + [0], refused(3, 1)),
@@ -167,7 +167,7 @@ LISTS = [
     ("n = 64, number 319", MENTOR_LIST, FIRSTS, 319, refused(11)),
     # The book before 11
     ("no bytes", STUDENT_LIST, [], 0, refused(1)),
-    ("edition 2", MENTOR_LIST, put(TWO, {0: 2}), 2, refused(2)),
+    ("edition 0", MENTOR_LIST, put(TWO, {0: 0}), 2, refused(2)),
     ("n = 65", STUDENT_LIST, put(TWO, {1: 65}), 66, refused(3, 1)),
     ("n = 65, number 256", MENTOR_LIST, put(TWO, {1: 65}), 256, refused(3, 1)),
     ("second directory pair", MENTOR_LIST, put(TWO, {8: 3}), 0, refused(5, 6)),

@@ -1,4 +1,4 @@
-"""Books from ranked lists, built byte by byte by document 01, section 'The book'."""
+"""Books from ranked lists, built byte by byte by document 01, section 'The book', and by W-203 of document 02."""
 
 
 def digits(text):
@@ -20,12 +20,32 @@ def book_of(text):
     return book(len(text.split()) // 2, digits(text))
 
 
+def short_book(lists):
+    """A book of edition 2 from its lists, students and then mentors, each of any length."""
+    n = len(lists) // 2
+    out, offset = [2, n], 2 + 8 * n
+    for entries in lists:
+        out += [offset % 256, offset // 256, len(entries), 0]
+        offset += len(entries)
+    return out + sum(lists, [])
+
+
+def short_book_of(text):
+    """A book of edition 2 from its lists, each a word of digits, - for none."""
+    return short_book([digits(word) for word in text.split()])
+
+
 def put(b, changes):
     """The bytes with others at some places."""
     b = list(b)
     for place, byte in changes.items():
         b[place] = byte
     return b
+
+
+def mentors(text):
+    """A matching, a digit for each student, - for one without a mentor."""
+    return [255 if c == "-" else int(c) for c in text]
 
 
 def firsts(n):
@@ -64,3 +84,25 @@ M5 = "4563120"
 # The largest n
 FIRSTS = firsts(64)
 ROUNDS = rounds(64)
+
+# Edition 2. Students 0 and 1 can exchange mentors 0 and 1, the one rotation. Students 2 and 3 would exchange mentors 2
+# and 3, but student 2 prefers mentor 4, who is alone, to mentor 3: their pairs are fixed. Student 4 is alone, as mentor 1
+# prefers whomever she has; student 5 and mentor 5 list nobody. Directory pair k at byte 2 + 4k, the lists are bytes 50
+# to 69
+SIX = short_book_of("""
+01 10 243 32 1 -
+10 014 32 23 2 -
+""")
+# Table 1 without the entries below a student's mentor in the mentor-best matching and below a mentor's student in the
+# student-best one, which take part in no stable matching and block none; and with student 7 last on the lists of
+# mentors 0, 2 and 6, and mentor 7 last on those of students 0 and 3. Both are alone, and else all is as in Table 1
+SHORT_TABLE_1 = short_book_of("""
+52417 45023 60 32457 1204 0542 2506 620
+216457 04 5043167 13 40531 31650 627 30
+""")
+# One student and two, of whom nobody lists anybody; one who has his mentor
+LONE, LONE_TWO, ONE_SHORT = short_book_of("- -"), short_book_of("- - - -"), short_book_of("0 0")
+# The largest n, lists of 8: `rounds` with those entries alone that are at a student's places 0 to 7
+SHORT_ROUNDS = short_book(
+    [[(i + j) % 64 for j in range(8)] for i in range(64)] + [[(w - 7 + j) % 64 for j in range(8)] for w in range(64)]
+)

@@ -38,7 +38,7 @@ EXTREMES = [
     # The book's rules come before 14, and nothing is written
     ("no bytes", STUDENT_BEST, [], 2, refused(1), ""),
     ("two by two, one byte short", STUDENT_BEST, TWO[:25], 2, refused(1, 25), ""),
-    ("edition 2", MENTOR_BEST, put(TWO, {0: 2}), 2, refused(2), ""),
+    ("edition 0", MENTOR_BEST, put(TWO, {0: 0}), 2, refused(2), ""),
     ("n = 65", STUDENT_BEST, put(TWO, {1: 65}), 2, refused(3, 1), ""),
     ("one byte more", MENTOR_BEST, TWO + [0], 2, refused(4, 26), ""),
     ("second directory pair", STUDENT_BEST, put(TWO, {8: 3}), 2, refused(5, 6), ""),

@@ -62,7 +62,7 @@ REFUSED = [
     # The book's rules
     ("no bytes", [], "01", [0, 0], 2, refused(1)),
     ("one byte short", TWO[:25], "01", [0, 0], 2, refused(1, 25)),
-    ("edition 2", put(TWO, {0: 2}), "01", [0, 0], 2, refused(2)),
+    ("edition 0", put(TWO, {0: 0}), "01", [0, 0], 2, refused(2)),
     ("n = 65", put(TWO, {1: 65}), "01", [0, 0], 2, refused(3, 1)),
     ("one byte more", TWO + [0], "01", [0, 0], 2, refused(4, 26)),
     ("second directory pair", put(TWO, {8: 3}), "01", [0, 0], 2, refused(5, 6)),
@@ -101,7 +101,7 @@ GRADED = [
     ("two alike", SAME, "01", fine(0)),
     ("two besides the asking student", FOUR, "0321", fine(2)),
     ("one besides the asking student", FIVE, "14302", fine(1)),
-    ("edition 2", put(TWO, {0: 2}), "01", refused(2)),
+    ("edition 0", put(TWO, {0: 0}), "01", refused(2)),
     ("a matching of one byte", TWO, "0", refused(8)),
     ("a mentor twice", TWO, "11", refused(9, 1)),
     ("student 0 and mentor 0 block", SAME, "10", refused(10, 0, 0)),

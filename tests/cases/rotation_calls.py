@@ -75,7 +75,7 @@ COUNTED = [
     (LARGE, fine(2016)),
     # The book's rules
     ([], refused(1)),
-    (put(TWO, {0: 2}), refused(2)),
+    (put(TWO, {0: 0}), refused(2)),
     (put(TWO, {1: 65}), refused(3, 1)),
     (TWO + [0], refused(4, 26)),
     (put(TWO, {8: 3}), refused(5, 6)),
@@ -102,7 +102,7 @@ LISTED = [
     (TWO, 4, refused(14), []),
     (LARGE, 10079, refused(14), []),
     # The book comes first, and nothing is written
-    (put(TWO, {0: 2}), 5, refused(2), []),
+    (put(TWO, {0: 0}), 5, refused(2), []),
     (put(TWO, {19: 0}), 1, refused(7, 19), []),
 ]
 

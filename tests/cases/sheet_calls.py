@@ -35,7 +35,7 @@ SHEETS = [
     ("Table 1, 155 bytes", TABLE_1[:155], ["refused 1"]),
     # 2 edition, 3 crowd
     ("edition 0", put(TABLE_1 + M, {0: 0}), ["refused 2"]),
-    ("edition 2", put(TABLE_1 + M, {0: 2}), ["refused 2"]),
+    ("edition 3", put(TABLE_1 + M, {0: 3}), ["refused 2"]),
     ("n = 65", put(TABLE_1 + M, {1: 65}), ["refused 3"]),
     # 5 directory, 6 stranger, 7 repeat
     ("first offset one more", put(TABLE_1 + M, {2: 59}), ["refused 5"]),
@@ -54,7 +54,7 @@ SHEETS = [
     # 10 unstable: mentor 0 ranks student 2 first, and he ranks her above mentor 2
     ("Table 1, 0 1 2 3 4 5 6", TABLE_1 + [0, 1, 2, 3, 4, 5, 6], ["refused 10"]),
     # Two rules broken: the order of the checks decides
-    ("2 before 3", put(TABLE_1 + M, {0: 2, 1: 65}), ["refused 2"]),
+    ("2 before 3", put(TABLE_1 + M, {0: 3, 1: 65}), ["refused 2"]),
     ("5 before 6", put(TABLE_1 + M, {54: 148, 58: 7}), ["refused 5"]),
     ("7 before 8", put(TABLE_1, {59: 0}), ["refused 7"]),
     ("7 before 9", put(TABLE_1 + M, {59: 0, 162: 4}), ["refused 7"]),

@@ -73,7 +73,7 @@ REFUSED = [
     # The book's rules and the matching's
     ("no bytes", [], "01", [1, 1], [0, 0], 2, refused(1)),
     ("one byte short", TWO[:25], "01", [1, 1], [0, 0], 2, refused(1, 25)),
-    ("edition 2", put(TWO, {0: 2}), "01", [1, 1], [0, 0], 2, refused(2)),
+    ("edition 0", put(TWO, {0: 0}), "01", [1, 1], [0, 0], 2, refused(2)),
     ("n = 65", put(TWO, {1: 65}), "01", [1, 1], [0, 0], 2, refused(3, 1)),
     ("one byte more", TWO + [0], "01", [1, 1], [0, 0], 2, refused(4, 26)),
     ("second directory pair", put(TWO, {8: 3}), "01", [1, 1], [0, 0], 2, refused(5, 6)),
@@ -122,7 +122,7 @@ GRADED = [
     ("two alike", SAME, [0, 1], [7, 9], fine(0)),
     ("two by two: 262 less 7", TWO, [0, 1], [255, 7], fine(255)),
     ("64 rounds: 64 times 255 less 255", ROUNDS, shift(64, 40), [255] * 64, fine(16065)),
-    ("edition 2", put(TWO, {0: 2}), [0, 1], [1, 1], refused(2)),
+    ("edition 0", put(TWO, {0: 0}), [0, 1], [1, 1], refused(2)),
     ("a matching of one byte", TWO, [0], [1, 1], refused(8)),
     ("a mentor twice", TWO, [1, 1], [1, 1], refused(9, 1)),
     ("student 0 and mentor 0 block", SAME, [1, 0], [1, 1], refused(10, 0, 0)),

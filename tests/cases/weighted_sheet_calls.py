@@ -46,7 +46,7 @@ SHEETS = [
     ("no bytes", [], ["refused 1"]),
     ("one byte", [1], ["refused 1"]),
     ("Table 1, 155 bytes", TABLE_1[:155], ["refused 1"]),
-    ("edition 2", put(TABLE_1 + M + ONES, {0: 2}), ["refused 2"]),
+    ("edition 0", put(TABLE_1 + M + ONES, {0: 0}), ["refused 2"]),
     ("n = 65", put(TABLE_1 + M + ONES, {1: 65}), ["refused 3"]),
     ("first offset one more", put(TABLE_1 + M + ONES, {2: 59}), ["refused 5"]),
     ("last entry is 7", put(TABLE_1 + M + ONES, {155: 7}), ["refused 6"]),

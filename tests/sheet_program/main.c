@@ -28,14 +28,17 @@ static const struct kind {
     size_t most;         /* bytes that it reads */
     size_t parts;        /* of n bytes each, after the book */
     const char *wrong;   /* what it prints where the last part is too short or too long */
-    const char *head;    /* cyclic lists of 64, weights of 255: the first line, and the end of every other */
+    const char *grade;   /* cyclic lists of 64, weights of 255: the end of the first line, and of every other */
     const char *tail;
     const char *table_1; /* Table 1 with M5, weights of 1 1 9 1 1 3 1 (tests/c/test_weights.c) */
+    const char *six;     /* the six short lists, student-best, weights of 7 30 1 1 255 255 */
 } kinds[2] = {
-    {"plain", 8771, 1, "refused 8\n", "64 63 63", "D 64",
-     "7 6 3\n0 4 U 2\n1 5 U 4\n2 6 D 2\n3 3 D 4\n4 1 D 2\n5 2 U 2\n6 0 D 2\n"},
-    {"weighted", 8835, 2, "refused 17\n", "64 63 16065", "D 16320",
-     "7 6 11\n0 4 D 2\n1 5 U 6\n2 6 D 10\n3 3 D 12\n4 1 D 2\n5 2 U 4\n6 0 U 6\n"},
+    {"plain", 8771, 1, "refused 8\n", "63", "D 64",
+     "7 6 3\n0 4 U 2\n1 5 U 4\n2 6 D 2\n3 3 D 4\n4 1 D 2\n5 2 U 2\n6 0 D 2\n",
+     "6 1 1\n0 0 D 2\n1 1 D 2\n2 2 F 0\n3 3 F 0\n4 - N 0\n5 - N 0\n"},
+    {"weighted", 8835, 2, "refused 17\n", "16065", "D 16320",
+     "7 6 11\n0 4 D 2\n1 5 U 6\n2 6 D 10\n3 3 D 12\n4 1 D 2\n5 2 U 4\n6 0 U 6\n",
+     "6 1 30\n0 0 D 37\n1 1 D 37\n2 2 F 0\n3 3 F 0\n4 - N 0\n5 - N 0\n"},
 };
 
 static const struct kind *kind;
@@ -158,26 +161,54 @@ static void prints(struct input input, const char *due)
     HOLDS(strcmp(printed, due) == 0);
 }
 
-/* n = 64, each student with the mentor of the same number: the largest whole input is one byte less than the program
- * reads. One byte more and the last part is too long, and so it is with any number more. */
-static void largest(void)
+/* n = 64, cyclic lists of so many rotations, each student with the mentor of the same number. One byte more than the
+ * whole and the last part is too long, and so it is with any number more. */
+static void cyclic(struct book book, int rotations)
 {
     static char due[1024];
     uint8_t same[64], weights[64];
-    struct book book = cyclic_64();
-    int length = snprintf(due, sizeof due, "%s\n", kind->head);
+    int length = snprintf(due, sizeof due, "64 %d %s\n", rotations, kind->grade);
     for (int i = 0; i < 64; i++) {
         same[i] = (uint8_t)i;
         weights[i] = 255;
         length += snprintf(due + length, sizeof due - (size_t)length, "%d %d %s\n", i, i, kind->tail);
     }
-    HOLDS(whole(book) == kind->most - 1);
-    prints(input_of(book, same, weights, 8769), "refused 8\n");
+    prints(input_of(book, same, weights, book.length + 63), "refused 8\n");
     prints(input_of(book, same, weights, whole(book) - 1), kind->wrong);
     prints(input_of(book, same, weights, whole(book)), due);
+    prints(input_of(book, same, weights, whole(book) + 1), kind->wrong);
     prints(input_of(book, same, weights, kind->most), kind->wrong);
     prints(input_of(book, same, weights, kind->most + 1), kind->wrong);
     prints(input_of(book, same, weights, LONGEST_INPUT), kind->wrong);
+}
+
+/* Edition 1, edition 2 with full lists, and with lists of 8. The largest whole input is one byte less than the program
+ * reads. */
+static void largest(void)
+{
+    HOLDS(whole(cyclic_64()) == kind->most - 1);
+    cyclic(cyclic_64(), 63);
+    cyclic(short_cyclic_64(64), 63);
+    cyclic(short_cyclic_64(8), 7);
+}
+
+/* The six short lists: the book ends where its directory says, and what follows is the last part. */
+static void short_lists(void)
+{
+    static const uint8_t weights[6] = {7, 30, 1, 1, 255, 255};
+    struct book six = short_book(6, six_lists);
+    prints(input_of(six, six_best, weights, whole(six)), kind->six);
+    prints(input_of(six, six_best, weights, 49), "refused 1\n");
+    prints(input_of(six, six_best, weights, 69), "refused 1\n");
+    prints(input_of(six, six_best, weights, 70), "refused 8\n");
+    prints(input_of(six, six_best, weights, whole(six) - 1), kind->wrong);
+    prints(input_of(six, six_best, weights, whole(six) + 1), kind->wrong);
+    prints(input_of(six, six_best, weights, LONGEST_INPUT), kind->wrong);
+    prints(input_of(with(six, 47, 255), six_best, weights, LONGEST_INPUT), "refused 5\n");
+    prints(input_of(with(six, 46, 0), six_best, weights, whole(six)), "refused 5\n");
+    prints(input_of(short_book(1, "0 -"), six_best, weights, LONGEST_INPUT), "refused 18\n");
+    prints(input_of(six, (const uint8_t[6]){0, 1, 2, 3, 4, 255}, weights, whole(six)), "refused 19\n");
+    prints(input_of(six, (const uint8_t[6]){0, 1, 3, 2, 255, 255}, weights, whole(six)), "refused 10\n");
 }
 
 /* Table 1 with M5: all that follows is taken for the last part. A book that breaks a rule is refused by it, however
@@ -191,7 +222,7 @@ static void small(void)
     prints(input_of(table_1, table_1_m5, weights, whole(table_1) - 1), kind->wrong);
     prints(input_of(table_1, table_1_m5, weights, whole(table_1) + 1), kind->wrong);
     prints(input_of(table_1, table_1_m5, weights, LONGEST_INPUT), kind->wrong);
-    prints(input_of(with(table_1, 0, 2), table_1_m5, weights, LONGEST_INPUT), "refused 2\n");
+    prints(input_of(with(table_1, 0, 3), table_1_m5, weights, LONGEST_INPUT), "refused 2\n");
     prints(input_of(with(table_1, 1, 65), table_1_m5, weights, LONGEST_INPUT), "refused 3\n");
     prints(input_of(with(table_1, 155, 7), table_1_m5, weights, LONGEST_INPUT), "refused 6\n");
     prints(input_of(nobody, table_1_m5, weights, 2), "0 0 0\n");
@@ -213,6 +244,7 @@ int main(int argc, char **argv)
     program = argv[2];
     largest();
     small();
+    short_lists();
     printf("%s sheet program: %lu checks, %lu failed\n", kind->name, checks, failures);
     return failures != 0;
 }

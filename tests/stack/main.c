@@ -1,7 +1,8 @@
-/* Measures the stack that each call of include/placement.h needs. A call is made on a stack of its own, which is filled
- * with a pattern before, and the deepest byte that has changed is looked for afterwards. What is printed for each n is the
- * most of all inputs of that n, each as it is and with a book that is refused at its last byte; a repair is asked for
- * every pair. Exits with 1 if a call needs more than the header says.
+/* Measures the stack that each call of include/placement.h needs. A call is made on a stack of its own, which is
+ * filled with a pattern before, and the deepest byte that has changed is looked for afterwards. What is printed for
+ * each n is the most of all inputs of that n, each as it is and with a book that is refused at its last byte; a book of
+ * edition 1 is measured as one of edition 2 too, which has the same bytes but the first. A repair is asked for every
+ * pair. Exits with 1 if a call needs more than the header says.
  *
  *     stack FILE...       files with a book and a stable matching after it; weights are added here */
 #define _XOPEN_SOURCE 700 /* makecontext */
@@ -41,8 +42,8 @@ static void book_size(void)
 
 static void write_book(void)
 {
-    const size_t lists = 2 * matching_len * matching_len;
-    reply = placement_write_book(matching_len, input + book_len - lists, lists, out, sizeof out);
+    const size_t lists = 2 + 8 * matching_len;
+    reply = placement_write_book(matching_len, input + lists, book_len - lists, out, sizeof out);
 }
 
 static void student_list(void)
@@ -188,6 +189,29 @@ static void measure(void)
     }
 }
 
+/* Measures all calls on the input for each student, and where the last byte of the book is refused. */
+static void measure_input(void)
+{
+    const uint8_t last = input[book_len - 1];
+    for (student = 0; student < matching_len; student++) {
+        measure();
+    }
+    student = 0;
+    input[book_len - 1] = (uint8_t)matching_len;
+    measure();
+    input[book_len - 1] = last;
+}
+
+/* How many bytes the book has: in edition 2 it ends with the last list, of which the last directory pair says where. */
+static size_t book_end(void)
+{
+    const uint8_t *end = input + 2 + 8 * (size_t)input[1];
+    if (input[0] == 1 || input[1] == 0) {
+        return placement_book_size(input[1]).value;
+    }
+    return end[-4] + end[-2] + 256 * (size_t)(end[-3] + end[-1]);
+}
+
 /* Measures all calls on the input of a file. */
 static void measure_file(const char *name)
 {
@@ -198,7 +222,7 @@ static void measure_file(const char *name)
     }
     size_t length = fread(input, 1, PLACEMENT_LARGEST_BOOK + PLACEMENT_LARGEST_N, file);
     fclose(file);
-    book_len = placement_book_size(input[1]).value;
+    book_len = book_end();
     matching = input + book_len;
     matching_len = length - book_len;
     weights = matching + matching_len;
@@ -211,12 +235,11 @@ static void measure_file(const char *name)
     for (student = 0; student < matching_len; student++) {
         weights[student] = (uint8_t)(255 - 37 * student);
     }
-    for (student = 0; student < matching_len; student++) {
-        measure();
+    measure_input();
+    if (input[0] == 1) {
+        input[0] = 2;
+        measure_input();
     }
-    student = 0;
-    input[book_len - 1] = (uint8_t)matching_len;
-    measure();
 }
 
 int main(int argc, char **argv)

@@ -1,6 +1,9 @@
 /* Prints the stable matchings of Table 1 of document 000 and its Tables 2 and 3, as the library gives them through
  * include/placement.h, and compares them with what the paper says (paper.h). Exits with 1 if something differs. What it
- * has to print is in `expected`. */
+ * has to print is in `expected`.
+ *
+ *     tables 1       Table 1 as a book of edition 1
+ *     tables 2       as one of edition 2, whose lists are full: it has to print the same */
 #include "../c/books.h"
 #include "../c/check.h"
 #include "definitions.h"
@@ -159,13 +162,18 @@ static void table_3(struct book book)
     EXPECT(placement_grade(book.bytes, book.length, table_1_m5, 7), value((size_t)paper_grade_5));
 }
 
-int main(void)
+int main(int argc, char **argv)
 {
     struct book book = book_of(7, table_1_lists);
-    find_members();
+    if (argc != 2 || (strcmp(argv[1], "1") != 0 && strcmp(argv[1], "2") != 0)) {
+        fprintf(stderr, "usage: tables 1|2\n");
+        return 2;
+    }
+    book = with(book, 0, (uint8_t)(argv[1][0] - '0'));
+    find_members(book);
     table_1();
     table_2(book);
     table_3(book);
-    fprintf(stderr, "tables: %lu checks, %lu failed\n", checks, failures);
+    fprintf(stderr, "tables, edition %s: %lu checks, %lu failed\n", argv[1], checks, failures);
     return failures != 0;
 }

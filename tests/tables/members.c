@@ -1,7 +1,6 @@
 /* The stable matchings of Table 1 with their closed sets: see members.h. */
 #include "members.h"
 
-#include "../c/books.h"
 #include "../c/check.h"
 #include "definitions.h"
 
@@ -71,9 +70,8 @@ static void compare_members(void)
     }
 }
 
-void find_members(void)
+void find_members(struct book book)
 {
-    struct book book = book_of(7, table_1_lists);
     for (unsigned marks = 0; marks < 1 << ROTATIONS; marks++) {
         uint8_t set[ROTATIONS], none[7];
         for (unsigned k = 0; k < ROTATIONS; k++) {

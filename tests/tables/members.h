@@ -2,6 +2,8 @@
 #ifndef MEMBERS_H
 #define MEMBERS_H
 
+#include "../c/books.h"
+
 #include <stddef.h>
 #include <stdint.h>
 
@@ -18,8 +20,8 @@ struct member {
 extern struct member members[1 << ROTATIONS];
 extern size_t member_count;
 
-/* Finds all closed sets and their matchings, and compares them with the definitions. */
-void find_members(void);
+/* Finds all closed sets of Table 1's book and their matchings, and compares them with the definitions. */
+void find_members(struct book book);
 
 /* The repair up (`up` 1) or down (0) of a student's pair of M5, of the members. NULL if there is none. */
 const struct member *repair_of(int student, int up);

@@ -1,0 +1,65 @@
+"""Short lists and what is defined of them: counts/book.py, which finds it among all matchings, with lists as text and
+with what the cases need beyond it."""
+from counts.book import NOBODY, Book, answer
+
+
+class Market(Book):
+    """The lists of students and then of mentors, best first, a word of digits each, - for none."""
+
+    def __init__(self, text):
+        self.lists = [[int(c) for c in word if c.isdigit()] for word in text.split()]
+        self.people = range(len(self.lists) // 2)
+        students, mentors = self.lists[: len(self.people)], self.lists[len(self.people) :]
+        assert all((t in students[s]) == (s in mentors[t]) for s in self.people for t in self.people)
+        super().__init__(students, mentors, short=True)
+        assert all(self.placed(m) == self.placed(self.all_stable[0]) for m in self.all_stable)
+
+    def placed(self, m):
+        """Who has a partner, students and mentors: the same in every stable matching."""
+        return [t != NOBODY for t in m], sorted(t for t in m if t != NOBODY)
+
+    def blocking(self, m):
+        """The lowest student who blocks and his best-ranked mentor who does, or None."""
+        for s in self.people:
+            for t in self.students[s][: self.place(s, m[s])]:
+                if self.wants(t, s, m):
+                    return s, t
+        return None
+
+    def mentor_best(self):
+        """That in which the students are at the lowest places."""
+        return max(self.all_stable, key=lambda m: sum(self.place(s, m[s]) for s in self.people))
+
+    def sets(self):
+        """The set of each stable matching, as numbers of rotations."""
+        rotations = self.rotations()
+        found = {m: {rotations.index(rotation) for rotation in run} for m, run in self.runs().items()}
+        assert set(found) == set(self.all_stable)
+        return found
+
+    def gains(self, m, new):
+        """Old place less new; a student without a mentor is at the end of his list in both."""
+        return [self.place(s, m[s]) - self.place(s, new[s]) for s in self.people]
+
+    def repair(self, m, s, weights):
+        """The letter, the total weight of the students moved, and the repaired matching, None for F; for a student
+        without a mentor N, 0 and None. Of the stable matchings on the side that the letter names it is the one at the
+        nearest places."""
+        if m[s] == NOBODY:
+            return "N", 0, None
+        letter, total = answer(*self.moved(m, s), weights)
+        sign = {"U": 1, "D": -1, "F": 0}[letter]
+        side = [x for x in self.all_stable if x[s] != m[s] and all(sign * gain >= 0 for gain in self.gains(m, x))]
+        return letter, total, min(side, key=lambda x: sum(map(abs, self.gains(m, x))), default=None)
+
+    def grade(self, m, weights):
+        repairs = [(s, *self.repair(m, s, weights)) for s in self.people]
+        return max([total - weights[s] for s, letter, total, _ in repairs if letter in "UD"], default=0)
+
+    def sheet(self, m, weights):
+        """The lines."""
+        lines = [f"{self.n} {len(self.rotations())} {self.grade(m, weights)}"]
+        for s in self.people:
+            letter, total, _ = self.repair(m, s, weights)
+            lines.append(f"{s} {'-' if m[s] == NOBODY else m[s]} {letter} {total}")
+        return lines
