@@ -13,12 +13,12 @@ use Rattle.format.specs.Outcome.{Outcome, gives}
 use Rattle.format.specs.Format.{people}
 use Rattle.matchings.specs.Matching.{checkMatching}
 use Rattle.repairs.specs.Repair.{RepairAnswer, fixed, repairReply, repairMatching, repairGains}
-use Rattle.repairs.specs.Grade.{gradeReply}
-use Rattle.repairs.specs.Promise.{PairIn, pairOf, written, InEvery, RepairUp, RepairDown, Takes, Lightest, Gained, nonzeroCount, Covers, AnswerIs, ReportedDistance, LargestLessOwn}
+use Rattle.repairs.specs.Grade.{graded, allFixed, gradeReply}
+use Rattle.repairs.specs.Promise.{PairIn, pairOf, written, InEvery, NotAllFixed, RepairUp, RepairDown, Takes, Lightest, Gained, nonzeroCount, Covers, AnswerIs, ReportedDistance, LargestLessOwn}
 use Rattle.repairs.specs.Laws.Request.{request-fine}
 use Rattle.repairs.specs.Laws.Demand3.{fixed-iff, takes, gains-are, answered, distance-is, reply-given}
 use Rattle.repairs.specs.Laws.OneRepair.{one-up, one-down, one-taken, only-one}
-use Rattle.repairs.specs.Laws.GradeBytes.{grade-is}
+use Rattle.repairs.specs.Laws.GradeBytes.{reply-number, reply-none, grade-is}
 use Rattle.repairs.specs.Laws.GradeSentence.{grade-largest}
 
 -- A book that is well formed with a matching that is stable in it, a pair of it asked for alone, and lent buffers that
@@ -76,18 +76,26 @@ module _ (b : List ℕ) (c : ℕ → ℕ) (m : List ℕ) (s : ℕ) (r k : List �
   pub one-repair-taken : (x y : Outcome RepairAnswer) → Takes b c m s r x → Takes b c m s k y → (r ≡ k) × (x ≡ y)
   one-repair-taken x y = one-taken
 
--- The grade is the least number such that, for each pair that is not fixed, some stable matching without it moves at
--- most that many students besides the asking one
-pub grade-exactly :
-    (b m : List ℕ) → checkMatching b m ≡ fine →
-    (g : ℕ) × (gradeReply b m ≡ gives g) × Covers b (λ i. 1) m g × ((h : ℕ) → Covers b (λ i. 1) m h → g ≤ h)
-grade-exactly b m stable = grade-is b (λ i. 1) m stable stable
+-- A book that is well formed, and a matching that is stable in it
+module _ (b m : List ℕ) (stable : checkMatching b m ≡ fine) where
+  -- the grade is a number exactly where some pair of the matching is not fixed
+  pub number-exactly : ((g : ℕ) × (gradeReply b m ≡ gives (graded g))) ↔ NotAllFixed b m
+  number-exactly = reply-number b (λ i. 1) m stable stable
 
--- In document 01's own sentence: it is the largest distance of an answer, less 1, over the pairs that are not fixed.
--- It is 0 if all are fixed
-pub grade-sentence :
-    (b m : List ℕ) → checkMatching b m ≡ fine →
-    (g : ℕ) × (gradeReply b m ≡ gives g) × LargestLessOwn b (λ i. 1) m (λ s. repairReply b m (pairOf m s)) g
-grade-sentence b m stable =
-    grade-largest b (λ i. 1) m stable stable (λ s o g. repairReply b m (pairOf m s) o g)
-    (λ s u o g h k. reply-given b (λ i. 1) m s stable u (request-fine b m s stable u h k))
+  -- and the reply is that no pair can be repaired exactly where all are fixed
+  pub all-fixed-exactly : gradeReply b m ≡ gives allFixed ↔ ((s : ℕ) → PairIn b m s → InEvery b m s)
+  all-fixed-exactly = reply-none b (λ i. 1) m stable stable
+
+  -- where some pair is not fixed, the grade is the least number such that, for each pair that is not fixed, some stable
+  -- matching without it moves at most that many students besides the asking one
+  pub grade-exactly :
+      NotAllFixed b m → (g : ℕ) × (gradeReply b m ≡ gives (graded g)) × Covers b (λ i. 1) m g × ((h : ℕ) → Covers b (λ i. 1) m h → g ≤ h)
+  grade-exactly = grade-is b (λ i. 1) m stable stable
+
+  -- in document 01's own sentence: it is the largest distance of an answer, less 1, over the pairs that are not fixed
+  pub grade-sentence :
+      NotAllFixed b m →
+      (g : ℕ) × (gradeReply b m ≡ gives (graded g)) × LargestLessOwn b (λ i. 1) m (λ s. repairReply b m (pairOf m s)) g
+  grade-sentence =
+      grade-largest b (λ i. 1) m stable stable (λ s o g. repairReply b m (pairOf m s) o g)
+      (λ s u o g h k. reply-given b (λ i. 1) m s stable u (request-fine b m s stable u h k))

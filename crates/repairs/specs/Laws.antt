@@ -7,7 +7,9 @@ pub mod MovedGains
 pub mod Request
 pub mod Demand3
 pub mod OneRepair
+pub mod FixedBytes
 pub mod GradeBytes
+pub mod GradeBound
 pub mod GradeSentence
 pub mod SameWeights
 pub mod UnitWeights

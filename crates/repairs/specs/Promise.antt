@@ -5,7 +5,7 @@
 use Prim.Native.Nat.{ℕ, _-_, _≤_, _<_}
 use mathlib.Core.Path.{_≡_}
 use mathlib.Core.List.{List}
-use mathlib.Core.Bool.{Bool, not}
+use mathlib.Core.Bool.{Bool, true, not}
 use mathlib.Core.Logic.{_↔_}
 use lib.ListN.{length, take, getD}
 use lib.Dec.{eqb}
@@ -36,6 +36,23 @@ written b out = take (people b) out
 -- Every stable matching of the book holds the pair
 abbrev pub InEvery : List ℕ → List ℕ → ℕ → Type 0
 InEvery b m s = (k : List ℕ) → checkMatching b k ≡ fine → womanOf k s ≡ womanOf m s
+
+-- The pair of student s is fixed: he has a mentor, and every stable matching of the book holds the pair
+pub record FixedPair (b m : List ℕ) (s : ℕ) : Type 0 where
+  pub pair : PairIn b m s
+  pub held : InEvery b m s
+
+-- Some pair of m is not fixed: that of the student `asking`
+pub record NotAllFixed (b m : List ℕ) : Type 0 where
+  pub asking : ℕ
+  pub pair : PairIn b m asking
+  pub parted : InEvery b m asking → ⊥
+
+-- k of the numbers below n have the property P: a test tells which, and k pass it
+pub record HowMany (n : ℕ) (P : ℕ → Type 0) (k : ℕ) : Type 0 where
+  pub test : ℕ → Bool
+  pub tells : {s : ℕ} → s < n → test s ≡ true ↔ P s
+  pub passed : k ≡ count n test
 
 -- k is a stable matching without the pair
 pub record Without (b m : List ℕ) (s : ℕ) (k : List ℕ) : Type 0 where
@@ -122,9 +139,11 @@ pub data ReportedDistance (n : ℕ) (reply : List ℕ → List ℤ → Outcome R
   reported-down : AnswerIs n reply (down d) → ReportedDistance n reply d
 
 -- `replies s` is the reply for the pair of student s. g is the largest distance of an answer, less the asking student's
--- own weight, over the pairs of m that are not fixed. It is 0 if all are fixed
-pub data LargestLessOwn (b : List ℕ) (c : ℕ → ℕ) (m : List ℕ) (replies : ℕ → List ℕ → List ℤ → Outcome RepairAnswer) (g : ℕ) : Type 0 where
-  largest-less-own : {s d : ℕ} → PairIn b m s → ReportedDistance (people b) (replies s) d →
-      ((t e : ℕ) → PairIn b m t → ReportedDistance (people b) (replies t) e → e - c t ≤ d - c s) → g ≡ d - c s →
-      LargestLessOwn b c m replies g
-  all-fixed : ((s : ℕ) → PairIn b m s → AnswerIs (people b) (replies s) fixed) → g ≡ 0 → LargestLessOwn b c m replies g
+-- own weight, over the pairs of m that are not fixed
+pub record LargestLessOwn (b : List ℕ) (c : ℕ → ℕ) (m : List ℕ) (replies : ℕ → List ℕ → List ℤ → Outcome RepairAnswer) (g : ℕ) : Type 0 where
+  pub asking : ℕ
+  pub distance : ℕ
+  pub pair : PairIn b m asking
+  pub reported : ReportedDistance (people b) (replies asking) distance
+  pub most : (t e : ℕ) → PairIn b m t → ReportedDistance (people b) (replies t) e → e - c t ≤ distance - c asking
+  pub is : g ≡ distance - c asking

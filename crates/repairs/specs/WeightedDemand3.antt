@@ -14,12 +14,12 @@ use Rattle.format.specs.Format.{people}
 use Rattle.matchings.specs.Matching.{checkMatching}
 use Rattle.repairs.specs.Weights.{weightOf}
 use Rattle.repairs.specs.Repair.{RepairAnswer, fixed, repairReply, repairMatching, repairGains, weightedReply, weightedMatching, weightedGains}
-use Rattle.repairs.specs.Grade.{gradeReply, weightedGrade}
-use Rattle.repairs.specs.Promise.{PairIn, pairOf, written, InEvery, Takes, Lightest, Gained, nonzeroWeight, Covers, AnswerIs, ReportedDistance, LargestLessOwn}
+use Rattle.repairs.specs.Grade.{graded, allFixed, gradeReply, weightedGrade}
+use Rattle.repairs.specs.Promise.{PairIn, pairOf, written, InEvery, NotAllFixed, Takes, Lightest, Gained, nonzeroWeight, Covers, AnswerIs, ReportedDistance, LargestLessOwn}
 use Rattle.repairs.specs.Laws.Request.{weighed-fine, weighted-fine}
 use Rattle.repairs.specs.Laws.Demand3.{fixed-iff, takes, gains-are, answered, distance-is, reply-given}
 use Rattle.repairs.specs.Laws.OneRepair.{only-one}
-use Rattle.repairs.specs.Laws.GradeBytes.{grade-is}
+use Rattle.repairs.specs.Laws.GradeBytes.{reply-number, reply-none, grade-is}
 use Rattle.repairs.specs.Laws.GradeSentence.{grade-largest}
 use Rattle.repairs.specs.Laws.UnitWeights.{UnitWeights, unit-ones, unit-reply, unit-matching, unit-gains, unit-grade}
 
@@ -68,21 +68,31 @@ module _ (b m k : List ℕ) (s : ℕ) (out : List ℕ) (gains : List ℤ)
       answered b (weightOf k) m s stable pair (weighted-fine b m k s stable all pair room gains-room)
       (λ o g h l. weighted-fine b m k s stable all pair h l)
 
--- The grade is the least number such that, for each pair that is not fixed, some stable matching without it has moved
--- students, besides the asking one, that weigh at most that
-pub grade-exactly :
-    (b m k : List ℕ) → checkMatching b m ≡ fine → length k ≡ people b →
-    (g : ℕ) × (weightedGrade b m k ≡ gives g) × Covers b (weightOf k) m g × ((h : ℕ) → Covers b (weightOf k) m h → g ≤ h)
-grade-exactly b m k stable all = grade-is b (weightOf k) m stable (weighed-fine b m k stable all)
+-- A book that is well formed, a matching that is stable in it, and a byte for each student
+module _ (b m k : List ℕ) (stable : checkMatching b m ≡ fine) (all : length k ≡ people b) where
+  -- the grade is a number exactly where some pair of the matching is not fixed
+  pub number-exactly : ((g : ℕ) × (weightedGrade b m k ≡ gives (graded g))) ↔ NotAllFixed b m
+  number-exactly = reply-number b (weightOf k) m stable (weighed-fine b m k stable all)
 
--- In document 02's own sentence: each pair's total is reduced by the asking student's own weight, and the grade is the
--- largest of these. It is 0 if all are fixed
-pub grade-sentence :
-    (b m k : List ℕ) → checkMatching b m ≡ fine → length k ≡ people b →
-    (g : ℕ) × (weightedGrade b m k ≡ gives g) × LargestLessOwn b (weightOf k) m (λ s. weightedReply b m k (pairOf m s)) g
-grade-sentence b m k stable all =
-    grade-largest b (weightOf k) m stable (weighed-fine b m k stable all) (λ s o g. weightedReply b m k (pairOf m s) o g)
-    (λ s u o g h l. reply-given b (weightOf k) m s stable u (weighted-fine b m k s stable all u h l))
+  -- and the reply is that no pair can be repaired exactly where all are fixed
+  pub all-fixed-exactly : weightedGrade b m k ≡ gives allFixed ↔ ((s : ℕ) → PairIn b m s → InEvery b m s)
+  all-fixed-exactly = reply-none b (weightOf k) m stable (weighed-fine b m k stable all)
+
+  -- where some pair is not fixed, the grade is the least number such that, for each pair that is not fixed, some stable
+  -- matching without it has moved students, besides the asking one, that weigh at most that
+  pub grade-exactly :
+      NotAllFixed b m →
+      (g : ℕ) × (weightedGrade b m k ≡ gives (graded g)) × Covers b (weightOf k) m g × ((h : ℕ) → Covers b (weightOf k) m h → g ≤ h)
+  grade-exactly = grade-is b (weightOf k) m stable (weighed-fine b m k stable all)
+
+  -- in document 02's own sentence: each pair's total is reduced by the asking student's own weight, and the grade is
+  -- the largest of these
+  pub grade-sentence :
+      NotAllFixed b m →
+      (g : ℕ) × (weightedGrade b m k ≡ gives (graded g)) × LargestLessOwn b (weightOf k) m (λ s. weightedReply b m k (pairOf m s)) g
+  grade-sentence =
+      grade-largest b (weightOf k) m stable (weighed-fine b m k stable all) (λ s o g. weightedReply b m k (pairOf m s) o g)
+      (λ s u o g h l. reply-given b (weightOf k) m s stable u (weighted-fine b m k s stable all u h l))
 
 -- With every weight 1 the weighted calls are the plain ones: on every input the replies are the same, refusals
 -- included, and so are the buffers

@@ -14,8 +14,14 @@ pub enum Answer {
     Refused(Refusal),
 }
 
+// The grade of a matching: a number, or that every pair is fixed and none can be repaired.
+pub enum Grade {
+    Number(usize),
+    AllFixed,
+}
+
 // The answer for a matching.
 pub enum Graded {
-    Grade(usize),
+    Grade(Grade),
     Refused(Refusal),
 }

@@ -6,5 +6,6 @@
 mod answer;
 
 pub use answer::Answer;
+pub use answer::Grade;
 pub use answer::Graded;
 pub use answer::Repair;

@@ -5,6 +5,7 @@ use lib.Dec.{eqb}
 use Rattle.laws.specs.Choice.{pick}
 use Rattle.format.specs.Verdict.{Verdict, fine, refused}
 use Rattle.format.specs.Format.{nobody}
+use Rattle.repairs.specs.Grade.{GradeAnswer, graded, allFixed}
 use Rattle.sheets.specs.Decimal.{decimal}
 
 -- The bytes between fields and after them
@@ -20,9 +21,14 @@ line [] = lineFeed ∷ []
 line (field ∷ []) = field ++ (lineFeed ∷ [])
 line (field ∷ next ∷ more) = field ++ (space ∷ line (next ∷ more))
 
--- Line one: n, the number of rotations, the grade
-unfoldable pub topLine : ℕ → ℕ → ℕ → List ℕ
-topLine n rotations grade = line (decimal n ∷ decimal rotations ∷ decimal grade ∷ [])
+-- The grade's field: its number, or `-` where no pair can be repaired
+abbrev pub gradeField : GradeAnswer → List ℕ
+gradeField (graded g) = decimal g
+gradeField allFixed = 45 ∷ []
+
+-- Line one: n, the number of rotations, the number of fixed pairs, the grade
+unfoldable pub topLine : ℕ → ℕ → ℕ → GradeAnswer → List ℕ
+topLine n rotations fixedPairs grade = line (decimal n ∷ decimal rotations ∷ decimal fixedPairs ∷ gradeField grade ∷ [])
 
 -- The line of a pair: student, mentor, letter, distance
 unfoldable pub pairLine : ℕ → ℕ → ℕ → ℕ → List ℕ

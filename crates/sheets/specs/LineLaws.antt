@@ -5,8 +5,16 @@ use mathlib.Core.List.{[], _∷_, _++_}
 use native.Mathlib.Omega.{arith}
 use borrow.Author.Tests.{eq-eqb, ne-eqb}
 use Rattle.format.specs.Format.{nobody}
+use Rattle.repairs.specs.Grade.{graded, allFixed}
 use Rattle.sheets.specs.Decimal.{decimalIn, decimal}
-use Rattle.sheets.specs.Line.{line, pairLine, aloneLine, studentLine, studentLines}
+use Rattle.sheets.specs.Line.{line, topLine, pairLine, aloneLine, studentLine, studentLines}
+
+-- Line one, computed: `7 6 0 3` of Table 1, and `1 0 1 -` of one student
+pub top-examples :
+    topLine 7 6 0 (graded 3) ++ topLine 1 0 1 allFixed
+    ≡ 55 ∷ 32 ∷ 54 ∷ 32 ∷ 48 ∷ 32 ∷ 51 ∷ 10 ∷ 49 ∷ 32 ∷ 48 ∷ 32 ∷ 49 ∷ 32 ∷ 45 ∷ 10 ∷ []
+unfolding topLine line decimal decimalIn
+top-examples = refl
 
 module _ (man : ℕ) {woman : ℕ} (letter distance : ℕ) where
   -- the line of a student with a mentor is that of his pair

@@ -16,10 +16,10 @@ digits = digitsOf largest
 abbrev pub totalDigits : ℕ
 totalDigits = digitsOf (largest * 255)
 
--- Line one: three numbers, of which that of the rotations has at most twice the digits of n and the grade at most e,
--- and a byte after each
+-- Line one: four numbers, of which that of the rotations has at most twice the digits of n and the grade at most e, and
+-- a byte after each
 abbrev pub topMost : ℕ → ℕ
-topMost e = 3 * digits + e + 3
+topMost e = 4 * digits + e + 4
 
 -- The line of a student: two numbers, a letter and a distance of at most e digits, and a byte after each. Without a
 -- mentor it has one byte in place of her number and one in place of the distance, and is no longer
@@ -34,8 +34,8 @@ abbrev pub weightedLongest : ℕ
 weightedLongest = topMost totalDigits + studentMost totalDigits * largest
 
 -- in numbers
-pub longest-in-numbers : longest ≡ 715
+pub longest-in-numbers : longest ≡ 718
 longest-in-numbers = refl
 
-pub weighted-longest-in-numbers : weightedLongest ≡ 910
+pub weighted-longest-in-numbers : weightedLongest ≡ 913
 weighted-longest-in-numbers = refl

@@ -10,7 +10,7 @@ use Rattle.matchings.specs.Extreme.{matchingOf}
 use Rattle.rotations.specs.RotationList.{rotationCount}
 use Rattle.repairs.specs.Weights.{weightOf, checkWeighed, movedWeight}
 use Rattle.repairs.specs.Repair.{answerFor}
-use Rattle.repairs.specs.Grade.{gradeOf}
+use Rattle.repairs.specs.Grade.{fixedCount, gradeOf}
 use Rattle.sheets.specs.Line.{topLine, studentLines, refusalLine}
 
 -- The book: as many bytes as its size, which edition 1 has by n and edition 2 by the end of the last list
@@ -44,7 +44,7 @@ distanceOf b c m F = 0
 -- The sheet of a book and a stable matching: line one, then the line of each student
 unfoldable pub answers : List ℕ → (ℕ → ℕ) → List ℕ → List ℕ
 answers b c m =
-    topLine (people b) (rotationCount b) (gradeOf b c m)
+    topLine (people b) (rotationCount b) (fixedCount b c m) (gradeOf b c m)
     ++ studentLines (womanOf m) (λ s. letterOf (answerFor b c m s)) (λ s. distanceOf b c m (answerFor b c m s)) (people b)
 
 -- It goes on to repairs only where the check refused nothing; otherwise it is the line of the refusal

@@ -1,6 +1,6 @@
--- What a sheet says: the line of each pair is demand 3's answer for it, that of a student without a mentor says so, and
--- the grade is demand 3's grade. The words of the promises are those of crate repairs, over all stable matchings of the
--- book. Assumes nothing.
+-- What a sheet says: the line of each pair is demand 3's answer for it, that of a student without a mentor says so, the
+-- number of fixed pairs is that of the pairs that every stable matching holds, and the grade is demand 3's grade. The
+-- words of the promises are those of crate repairs, over all stable matchings of the book. Assumes nothing.
 use Prim.Native.Nat.{ℕ, _≤_, _<_}
 use mathlib.Core.Path.{_≡_, refl, _∙_, ap}
 use mathlib.Core.List.{List, [], _∷_, _++_}
@@ -25,11 +25,12 @@ use Rattle.matchings.specs.Laws.StableVector.{vector-stable}
 use Rattle.rotations.specs.RotationList.{rotationCount}
 use Rattle.repairs.specs.Weights.{weightOf, checkWeighed}
 use Rattle.repairs.specs.Repair.{RepairAnswer, up, down, fixed, answerFor, withDistance, entriesFor, matchingFor}
-use Rattle.repairs.specs.Grade.{gradeOf}
-use Rattle.repairs.specs.Promise.{PairIn, InEvery, Takes, Lightest, Covers}
+use Rattle.repairs.specs.Grade.{fixedCount, GradeAnswer, graded, gradeOf}
+use Rattle.repairs.specs.Promise.{PairIn, InEvery, FixedPair, NotAllFixed, HowMany, Takes, Lightest, Covers}
 use Rattle.repairs.specs.Laws.RepairBytes.{holds}
 use Rattle.repairs.specs.Laws.AnswerBytes.{reply-fixed, reply-takes}
-use Rattle.repairs.specs.Laws.GradeBytes.{grade-covers, grade-least}
+use Rattle.repairs.specs.Laws.FixedBytes.{fixed-count}
+use Rattle.repairs.specs.Laws.GradeBytes.{number-iff, grade-covers, grade-least}
 use Rattle.sheets.specs.Decimal.{decimal}
 use Rattle.sheets.specs.Line.{topLine, pairLine, studentLine, studentLines, refusalLine}
 use Rattle.sheets.specs.LineLaws.{pair-text, alone-text}
@@ -56,22 +57,28 @@ pub record AloneLine (b m : List ℕ) (s letter distance : ℕ) : Type 0 where
   pub text : studentLine s (womanOf m s) letter distance ≡ decimal s ++ (32 ∷ 45 ∷ 32 ∷ 78 ∷ 32 ∷ 48 ∷ 10 ∷ [])
   pub never : (k : List ℕ) → checkMatching b k ≡ fine → womanOf k s ≡ nobody
 
--- A sheet of n students with the number of rotations, the grade, and a letter and a distance for each
+-- A sheet of n students with the number of rotations, that of fixed pairs, the grade, and a letter and a distance for
+-- each
 pub record RightSheet (b : List ℕ) (c : ℕ → ℕ) (m : List ℕ) (sheet : List ℕ) : Type 0 where
-  pub grade : ℕ
+  pub fixed-pairs : ℕ
+  pub grade : GradeAnswer
   pub letter : ℕ → ℕ
   pub distance : ℕ → ℕ
-  pub text : sheet ≡ topLine (people b) (rotationCount b) grade ++ studentLines (womanOf m) letter distance (people b)
+  pub text : sheet ≡ topLine (people b) (rotationCount b) fixed-pairs grade ++ studentLines (womanOf m) letter distance (people b)
   -- the rotations are those of document 01's list
   pub numbered : Canonical (market b) (proposer-optimal (market b)) (rotationCount b) (rotation (market b))
   -- the line of each pair is right
   pub pairs : {s : ℕ} → PairIn b m s → RightLine b c m s (letter s) (distance s)
   -- and that of each student without a mentor says so
   pub alone : {s : ℕ} → s < people b → womanOf m s ≡ nobody → AloneLine b m s (letter s) (distance s)
-  -- the grade is the least number such that for each pair that is not fixed some stable matching without it moves
-  -- others that weigh at most so much
-  pub covers : Covers b c m grade
-  pub least : (g : ℕ) → Covers b c m g → grade ≤ g
+  -- so many pairs are held by every stable matching
+  pub held : HowMany (people b) (FixedPair b m) fixed-pairs
+  -- the grade is a number exactly where some pair is not fixed
+  pub number-exactly : ((g : ℕ) × (grade ≡ graded g)) ↔ NotAllFixed b m
+  -- and then the least such that for each pair that is not fixed some stable matching without it moves others that
+  -- weigh at most so much
+  pub covers : {g : ℕ} → grade ≡ graded g → Covers b c m g
+  pub least : {g : ℕ} → grade ≡ graded g → (h : ℕ) → Covers b c m h → g ≤ h
 
 -- the letter and the distance of an answer say it
 answer-says : (b : List ℕ) (c : ℕ → ℕ) (m : List ℕ) (a : Answer) → Says (letterOf a) (distanceOf b c m a) (withDistance b c m a)
@@ -108,7 +115,7 @@ alone-right {b} S {s} u e letter distance =
 answers-lines :
     (b : List ℕ) (c : ℕ → ℕ) (m : List ℕ) →
     answers b c m
-    ≡ topLine (people b) (rotationCount b) (gradeOf b c m)
+    ≡ topLine (people b) (rotationCount b) (fixedCount b c m) (gradeOf b c m)
     ++ studentLines (womanOf m) (λ s. letterOf (answerFor b c m s)) (λ s. distanceOf b c m (answerFor b c m s)) (people b)
 unfolding answers
 answers-lines b c m = refl
@@ -118,6 +125,7 @@ right : (b : List ℕ) (c : ℕ → ℕ) (m : List ℕ) → checkMatching b m �
 right b c m f e =
     let S = fine-stable b m .0 f in
     record {
+      fixed-pairs = fixedCount b c m;
       grade = gradeOf b c m;
       letter = λ s. letterOf (answerFor b c m s);
       distance = λ s. distanceOf b c m (answerFor b c m s);
@@ -125,8 +133,10 @@ right b c m f e =
       numbered = rotations-canonical (market-proper (S .matching .formed));
       pairs = λ P. pair-right S c P;
       alone = λ u e. alone-right S u e _ _;
-      covers = grade-covers S c;
-      least = grade-least S c;
+      held = fixed-count S c;
+      number-exactly = number-iff S c;
+      covers = λ e. grade-covers S c e;
+      least = λ e. grade-least S c e;
     }
 
 module _ (input : List ℕ) where

@@ -13,7 +13,7 @@ use Rattle.matchings.specs.Matching.{checkMatching}
 use Rattle.matchings.specs.Extreme.{matchingOf}
 use Rattle.rotations.specs.RotationList.{rotationCount}
 use Rattle.repairs.specs.Repair.{answerFor}
-use Rattle.repairs.specs.Laws.SameWeights.{moved-same, answer-same, grade-same, after-same}
+use Rattle.repairs.specs.Laws.SameWeights.{moved-same, answer-same, fixed-same, grade-same, after-same}
 use Rattle.repairs.specs.Laws.UnitWeights.{UnitWeights, unit-ones, unit-weighed, cut-weighed, cut-read}
 use Rattle.sheets.specs.Line.{topLine}
 use Rattle.sheets.specs.LineLaws.{lines-same}
@@ -30,7 +30,7 @@ module _ (b : List ℕ) {c d : ℕ → ℕ} (e : (i : ℕ) → i < people b → 
   answers-same : answers b c m ≡ answers b d m
   unfolding answers
   answers-same =
-      ap₂ (λ (t l : List ℕ). t ++ l) (ap (topLine (people b) (rotationCount b)) (grade-same b e m))
+      ap₂ (λ (t l : List ℕ). t ++ l) (ap₂ (topLine (people b) (rotationCount b)) (fixed-same b e m) (grade-same b e m))
       (lines-same (people b)
       (λ s u. (
         refl,

@@ -1,16 +1,17 @@
 -- Replies depend on the verdict, and where nothing is refused on the weights of the n students alone. So with every
 -- weight 1 the weighted replies are the plain ones, and weights past the largest n do not matter. Assumes nothing.
 use Prim.Native.Nat.{ℕ, _<_}
-use mathlib.Core.Path.{_≡_, refl, _∙_, ap}
+use mathlib.Core.Path.{_≡_, refl, _∙_, ap, ap₂}
 use mathlib.Core.List.{List}
-use mathlib.Core.Bool.{not}
+use mathlib.Core.Bool.{Bool, not}
 use lib.Dec.{eqb}
 use lib.IntN.{ℤ}
-use Rattle.laws.specs.Choice.{pick}
+use Rattle.laws.specs.Choice.{pick, both}
+use Rattle.laws.specs.First.{some-cong}
 use Rattle.laws.specs.SumLaws.{sum-same}
 use Rattle.format.specs.Verdict.{Verdict, fine, refused}
 use Rattle.format.specs.Outcome.{gives, after, filled}
-use Rattle.format.specs.Format.{people}
+use Rattle.format.specs.Format.{people, nobody}
 use Rattle.stable_theory.specs.Stable.Holding.{Same}
 use Rattle.stable_theory.specs.Repairs.Answer.{Answer, U, D, F}
 use Rattle.stable_theory.specs.Repairs.Weights.{answer-weights, robustness-weights}
@@ -20,7 +21,7 @@ use Rattle.matchings.specs.Extreme.{matchingOf}
 use Rattle.repairs.specs.Weights.{movedWeight}
 use Rattle.repairs.specs.Request.{askingMan}
 use Rattle.repairs.specs.Repair.{up, down, answerFor, withDistance, entriesFor, matchingFor, gainsFor, replyAfter, matchingAfter, gainsAfter}
-use Rattle.repairs.specs.Grade.{gradeOf}
+use Rattle.repairs.specs.Grade.{isFixed, fixedCount, graded, allFixed, gradeBy, gradeOf}
 
 -- Weights c and d of the students of a book that agree
 module _ (b : List ℕ) {c d : ℕ → ℕ} (e : (i : ℕ) → i < people b → c i ≡ d i) (m : List ℕ) where
@@ -47,9 +48,21 @@ module _ (b : List ℕ) {c d : ℕ → ℕ} (e : (i : ℕ) → i < people b → 
   pub shown-same : (s : ℕ) → withDistance b c m (answerFor b c m s) ≡ withDistance b d m (answerFor b d m s)
   shown-same s = distance-same (answerFor b c m s) ∙ ap (withDistance b d m) (answer-same s)
 
-  -- and the grade is the same
+  -- so are the number of fixed pairs
+  pub fixed-same : fixedCount b c m ≡ fixedCount b d m
+  unfolding fixedCount
+  fixed-same =
+      sum-same (people b) (λ s. pick (both (not (eqb (womanOf m s) nobody)) (isFixed (answerFor b c m s))) 1 0)
+      (λ s. pick (both (not (eqb (womanOf m s) nobody)) (isFixed (answerFor b d m s))) 1 0)
+      (λ s u. ap (λ (a : Answer). pick {A = ℕ} (both (not (eqb (womanOf m s) nobody)) (isFixed a)) 1 0) (answer-same s))
+
+  -- and the grade
   pub grade-same : gradeOf b c m ≡ gradeOf b d m
-  grade-same = robustness-weights (market b) agree (vectorOf b m)
+  unfolding gradeBy
+  grade-same =
+      ap₂ (λ (t : Bool) (g : ℕ). pick t (graded g) allFixed)
+      (some-cong {k = people b} (λ s u. ap (λ (a : Answer). not (isFixed a)) (answer-same s)))
+      (robustness-weights (market b) agree (vectorOf b m))
 
 -- What depends on a verdict and on weights, and where something is refused on the verdict alone, is the same for
 -- verdicts that are the same and weights that agree where nothing is refused
