@@ -9,7 +9,7 @@ ghost use Rattle.laws.specs.Moment.{now₀};
 ghost use Rattle.repairs.specs.Grade.{gradeOutcome, gradeReply, weightedGrade};
 
 // The grade of a matching of a book: the largest distance of an answer, less 1, over the pairs that are not fixed; or
-// the first rule that is broken and where. Every student weighs 1.
+// that all are fixed; or the first rule that is broken and where. Every student weighs 1.
 pub fn grade(book: &[u8], matching: &[u8]) -> Graded
     ensures { λ r. ⌜ gradeOutcome r ≡ gradeReply (now₀ book) (now₀ matching) ⌝ }
 {

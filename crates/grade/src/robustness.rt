@@ -6,6 +6,7 @@ use format::Checked;
 use format::Instance;
 use pair_answers::answer_pairs;
 use record::load;
+use repairs::Grade;
 use repairs::Graded;
 use stability::judge;
 use weights::check_weights;
@@ -15,11 +16,11 @@ ghost use Rattle.format.specs.Outcome.{after};
 ghost use Rattle.format.specs.Record.{Record, lent, LongTables};
 ghost use Rattle.format.specs.Verdict.{verdictOf};
 ghost use Rattle.stability.specs.Judge.{FromBook, EachBook};
-ghost use Rattle.repairs.specs.Grade.{gradeOutcome, weightedGrade};
+ghost use Rattle.repairs.specs.Grade.{allFixed, gradeOutcome, weightedGrade};
 ghost use Rattle.weights.specs.Weights.{WeightsGiven};
 
 // The grade of a matching of a book: the largest total of an answer, less the asking student's own weight, over the
-// pairs that are not fixed; or the first rule that is broken and where.
+// pairs that are not fixed; or that all are fixed; or the first rule that is broken and where.
 pub(crate) fn grade_by(book: &[u8], matching: &[u8], weights: &[u32], wweights: &[u32]) -> Graded
     requires { ⌜ WeightsGiven (now matching) (now weights) (now wweights) ⌝ }
     ensures { λ r. ⌜ gradeOutcome r ≡ weightedGrade (now₀ book) (now₀ matching) (now₀ weights) ⌝ }
@@ -129,15 +130,16 @@ fn grade_in<'a>(
         &mut letters[..],
         &mut distances[..],
     );
-    Graded::Grade(all.grade)
+    let grade = all.grade;
+    Graded::Grade(grade)
 }
 
-// A refusal as the answer for a matching; where nothing is refused, the grade 0.
+// A refusal as the answer for a matching; where nothing is refused, that every pair is fixed.
 fn ungraded(checked: Checked) -> Graded
-    ensures { λ r. ⌜ gradeOutcome r ≡ after (verdictOf checked) 0 ⌝ }
+    ensures { λ r. ⌜ gradeOutcome r ≡ after (verdictOf checked) allFixed ⌝ }
 {
     match checked {
         Checked::Refused(r) => Graded::Refused(r),
-        Checked::Fine => Graded::Grade(0),
+        Checked::Fine => Graded::Grade(Grade::AllFixed),
     }
 }

@@ -4,6 +4,7 @@ use Prim.Native.Nat.{ℕ, _-_, _≤_, _<_}
 use mathlib.Core.Path.{_≡_}
 use mathlib.Core.List.{List}
 use lib.ListN.{length}
+use Rattle.laws.specs.Maximum.{maximum}
 use Rattle.laws.specs.Values.{vec}
 use Rattle.tables.specs.Lists.{lenIn, Sound}
 use Rattle.format.specs.Format.{largest}
@@ -14,6 +15,7 @@ use Rattle.stable_theory.specs.Repairs.Repair.{weight}
 use Rattle.stable_theory.specs.Repairs.BothSides.{PartnerWeights}
 use Rattle.pushing.specs.Push.{Weighed}
 use Rattle.stable_theory.specs.Repairs.Answer.{Answer, U, D, F, answerOf}
+use Rattle.repairs.specs.Grade.{GradeAnswer, gradeBy}
 use Rattle.matchings.specs.declared.places.Places.{Places}
 use Rattle.instances.specs.Usable.{byMen, byWomen, marketIn}
 use Rattle.nearest.specs.declared.answer.Letter.{Letter}
@@ -57,6 +59,10 @@ farOf I c p F = 0
 -- What the answer for s counts in the grade: that total less his own weight, or 0
 abbrev pub costs : Market → (ℕ → ℕ) → (ℕ → ℕ) → ℕ → ℕ
 costs I c p s = farOf I c p (answerOf I c p s) - c s
+
+-- The grade over a market: the largest of these, where some answer is a repair
+abbrev pub gradeIn : Market → (ℕ → ℕ) → (ℕ → ℕ) → GradeAnswer
+gradeIn I c p = gradeBy (I .proposers .size) (answerOf I c p) (maximum (I .proposers .size) (costs I c p))
 
 -- The vector after it
 abbrev pub vectorAfter : (ℕ → ℕ) → Answer → ℕ → ℕ

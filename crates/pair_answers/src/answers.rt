@@ -5,6 +5,7 @@ use matchings::Places;
 use pair_groups::group;
 use pair_measures::fill_answers;
 use pair_measures::measure;
+use repairs::Grade;
 ghost use mathlib.Core.Path.{_≡_};
 ghost use Prim.Native.Nat.{_≤_};
 ghost use lib.ListN.{length};
@@ -17,7 +18,7 @@ ghost use Rattle.pair_answers.specs.Answered.{PairsAnswered};
 
 // The grade of a matching, and the number of rotations.
 pub struct Summary {
-    pub grade: usize,
+    pub grade: Grade,
     pub rotations: usize,
 }
 
@@ -66,7 +67,7 @@ pub fn answer_pairs<'a>(
     );
     fill_answers(n, &down, &up, &below, &above, letters, distances);
     Summary {
-        grade: grade_of(distances, weights, n) as usize,
+        grade: grade_of(letters, distances, weights, n),
         rotations: groups.rotations,
     }
 }

@@ -6,7 +6,7 @@ ghost use mathlib.Core.Path.{_≡_};
 ghost use Rattle.laws.specs.Moment.{now₀, now₁};
 ghost use Rattle.repairs.specs.Repair.{repairReply, repairMatching, repairGains};
 ghost use Rattle.repairs.specs.Grade.{gradeReply};
-ghost use Rattle.replies.specs.Replies.{numberReply, letterReply};
+ghost use Rattle.replies.specs.Replies.{gradedReply, letterReply};
 
 // The repair of one pair, with its matching and the places gained.
 #[no_mangle]
@@ -28,7 +28,7 @@ pub extern "C" fn placement_repair(
 // The grade of a stable matching.
 #[no_mangle]
 pub extern "C" fn placement_grade(book: &[u8], matching: &[u8]) -> Reply
-    ensures { λ r. ⌜ r ≡ numberReply (gradeReply (now₀ book) (now₀ matching)) ⌝ }
+    ensures { λ r. ⌜ r ≡ gradedReply (gradeReply (now₀ book) (now₀ matching)) ⌝ }
 {
     grade_reply(grade::grade(book, matching))
 }

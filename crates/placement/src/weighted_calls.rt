@@ -9,7 +9,7 @@ ghost use Rattle.laws.specs.Moment.{now₀, now₁};
 ghost use Rattle.repairs.specs.Repair.{weightedReply, weightedMatching, weightedGains};
 ghost use Rattle.repairs.specs.Grade.{weightedGrade};
 ghost use Rattle.sheets.specs.Reply.{weightedSheetReply, weightedSheetBuffer};
-ghost use Rattle.replies.specs.Replies.{numberReply, letterReply};
+ghost use Rattle.replies.specs.Replies.{numberReply, gradedReply, letterReply};
 
 // The repair of one pair, with its matching and the places gained.
 #[no_mangle]
@@ -35,7 +35,7 @@ pub extern "C" fn placement_weighted_repair(
 // The grade of a stable matching.
 #[no_mangle]
 pub extern "C" fn placement_weighted_grade(book: &[u8], matching: &[u8], weights: &[u8]) -> Reply
-    ensures { λ r. ⌜ r ≡ numberReply (weightedGrade (now₀ book) (now₀ matching) (now₀ weights)) ⌝ }
+    ensures { λ r. ⌜ r ≡ gradedReply (weightedGrade (now₀ book) (now₀ matching) (now₀ weights)) ⌝ }
 {
     grade_reply(grade::weighted_grade(book, matching, weights))
 }

@@ -6,6 +6,7 @@ use Rattle.laws.specs.Choice.{pick}
 use Rattle.format.specs.Verdict.{Verdict, refused}
 use Rattle.format.specs.Outcome.{Outcome, gives, refusal, after}
 use Rattle.repairs.specs.Repair.{RepairAnswer, up, down, fixed}
+use Rattle.repairs.specs.Grade.{GradeAnswer, graded, allFixed}
 use Rattle.replies.specs.declared.reply.Reply.{Reply}
 
 -- Nothing is refused: a place and a value as the call says
@@ -28,6 +29,18 @@ replyBy granting (refusal number place second) = denied number place second
 -- A number
 abbrev pub numberReply : Outcome ℕ → Reply
 numberReply answer = replyBy (granted 0) answer
+
+-- The value of a grade's reply where no pair can be repaired: the largest that the field holds
+abbrev pub noGrade : ℕ
+noGrade = 18446744073709551615
+
+-- A grade: its number, or that value
+abbrev pub gradeValue : GradeAnswer → ℕ
+gradeValue (graded g) = g
+gradeValue allFixed = noGrade
+
+abbrev pub gradedReply : Outcome GradeAnswer → Reply
+gradedReply answer = replyBy (λ x. granted 0 (gradeValue x)) answer
 
 -- Yes or no: 1 or 0
 abbrev pub yesNoReply : Outcome Bool → Reply

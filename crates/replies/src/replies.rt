@@ -1,18 +1,20 @@
 // The answers of the crates below as replies.
+use crate::reply::NO_GRADE;
 use crate::reply::Reply;
 use format::Checked;
 use format::Counted;
 use format::Refusal;
 use repairs::Answer;
+use repairs::Grade;
 use repairs::Graded;
 use rotations::Precedence;
 ghost use mathlib.Core.Path.{_≡_};
 ghost use Rattle.format.specs.Outcome.{countOutcome};
 ghost use Rattle.format.specs.Verdict.{verdictOf};
-ghost use Rattle.repairs.specs.Grade.{gradeOutcome};
+ghost use Rattle.repairs.specs.Grade.{gradeAnswer, gradeOutcome};
 ghost use Rattle.repairs.specs.Repair.{repairOutcome};
 ghost use Rattle.rotations.specs.Precedence.{precedenceOutcome};
-ghost use Rattle.replies.specs.Replies.{granted, denied, lettered, numberReply, yesNoReply, letterReply, replyFor};
+ghost use Rattle.replies.specs.Replies.{granted, denied, lettered, numberReply, gradeValue, gradedReply, yesNoReply, letterReply, replyFor};
 
 // Nothing is refused.
 fn granted_reply(place: usize, value: usize) -> Reply
@@ -62,12 +64,22 @@ pub fn answer_reply(answer: Answer) -> Reply
     }
 }
 
+// The value of a grade's reply: the number, or NO_GRADE where no pair can be repaired.
+fn grade_value(grade: Grade) -> usize
+    ensures { λ r. ⌜ r ≡ gradeValue (gradeAnswer grade) ⌝ }
+{
+    match grade {
+        Grade::Number(number) => number,
+        Grade::AllFixed => NO_GRADE,
+    }
+}
+
 // The reply for a grade.
 pub fn grade_reply(graded: Graded) -> Reply
-    ensures { λ r. ⌜ r ≡ numberReply (gradeOutcome graded) ⌝ }
+    ensures { λ r. ⌜ r ≡ gradedReply (gradeOutcome graded) ⌝ }
 {
     match graded {
-        Graded::Grade(grade) => granted_reply(0, grade),
+        Graded::Grade(grade) => granted_reply(0, grade_value(grade)),
         Graded::Refused(refusal) => denied_reply(refusal),
     }
 }

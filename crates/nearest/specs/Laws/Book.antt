@@ -5,7 +5,6 @@ use mathlib.Core.Path.{_≡_, subst, _∙_}
 use mathlib.Core.List.{List}
 use native.Mathlib.Omega.{arith}
 use lib.ListN.{length}
-use Rattle.laws.specs.Maximum.{maximum}
 use Rattle.laws.specs.Values.{vec}
 use Rattle.format.specs.Verdict.{Verdict, fine}
 use Rattle.format.specs.Format.{people}
@@ -29,8 +28,8 @@ use Rattle.stability.specs.Laws.Judged.{BookJudged}
 use Rattle.nearest.specs.declared.answer.Nearest.{Nearest}
 use Rattle.repairs.specs.Repair.{answerFor}
 use Rattle.repairs.specs.Grade.{gradeOf}
-use Rattle.nearest.specs.Laws.Grade.{far-same, far-alike, answer-each, costs-alike}
-use Rattle.nearest.specs.Nearest.{GivenIn, farOf, costs, Shows, ShowsFor}
+use Rattle.nearest.specs.Laws.Grade.{far-same, far-alike, answer-each, grade-alike}
+use Rattle.nearest.specs.Nearest.{GivenIn, farOf, gradeIn, Shows, ShowsFor}
 use Rattle.nearest.specs.Laws.Nearest.{shows-same, shows-alike}
 
 module _ {b m : List ℕ} {R : Record} {j : Judged} (J : BookJudged b m R j) (f : checkMatching b m ≡ fine) where
@@ -95,7 +94,8 @@ module _ {b m : List ℕ} {R : Record} {j : Judged} (J : BookJudged b m R j) (f 
   pub shows-book : (c : ℕ → ℕ) {s : ℕ} {r : Nearest} → s < R .n → ShowsFor R c (vec (j .places .men)) s r → Shows (market b) (vectorOf b m) (answerFor b c m s) r
   shows-book c {s} u S = shows-alike judged-alike judged-men (answerFor b c m s) (shows-same (answer-book c u) S)
 
-  -- and the largest cost over the record is the grade
-  pub grade-book : (c : ℕ → ℕ) → maximum (R .n) (costs (marketIn R) c (vec (j .places .men))) ≡ gradeOf b c m
+  -- and the grade over the record is that of the bytes
+  pub grade-book : (c : ℕ → ℕ) → gradeIn (marketIn R) c (vec (j .places .men)) ≡ gradeOf b c m
+  unfolding market
   grade-book c =
-      costs-alike (judged-usable .men .proper) (market-proper judged-formed) judged-alike c judged-men given-stable
+      grade-alike (judged-usable .men .proper) (market-proper judged-formed) judged-alike c judged-men given-stable

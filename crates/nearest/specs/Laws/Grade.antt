@@ -1,8 +1,10 @@
 -- The grade over the record of a book is that of the book. Assumes nothing.
 use Prim.Native.Nat.{ℕ, _-_, _≤_, _<_}
-use mathlib.Core.Path.{_≡_, refl, _∙_, ap}
+use mathlib.Core.Path.{_≡_, refl, _∙_, ap, ap₂}
+use mathlib.Core.Bool.{Bool, not}
 use native.Mathlib.Omega.{arith}
-use Rattle.laws.specs.Choice.{split}
+use Rattle.laws.specs.Choice.{pick, split}
+use Rattle.laws.specs.First.{some, some-cong}
 use Rattle.laws.specs.Maximum.{maximum, maximum-same}
 use Rattle.stable_theory.specs.Stable.Market.{Market, Proper}
 use Rattle.stable_theory.specs.Stable.Vector.{Stable}
@@ -12,13 +14,20 @@ use Rattle.stable_theory.specs.Repairs.Moves.{weight-same}
 use Rattle.stable_theory.specs.Repairs.Answer.{Answer, U, D, F, answerOf, SameAnswer, same-up, same-down, same-fixed, cost, robustness}
 use Rattle.stable_theory.specs.Repairs.AnswerAlike.{weight-alike, answer-alike}
 use Rattle.stable_theory.specs.Repairs.RobustLaws.{all-answers}
-use Rattle.nearest.specs.Nearest.{farOf, costs}
+use Rattle.repairs.specs.Grade.{isFixed, graded, allFixed, gradeBy}
+use Rattle.nearest.specs.Nearest.{farOf, costs, gradeIn}
 
 -- the same answer counts the same
 pub far-same : {I : Market} (c p : ℕ → ℕ) {a b : Answer} → SameAnswer I a b → farOf I c p a ≡ farOf I c p b
 far-same {I} c p (same-up {u} {v} e) = weight-same I c p u v e
 far-same {I} c p (same-down {u} {v} e) = weight-same I c p u v e
 far-same c p same-fixed = refl
+
+-- and so is whether it is fixed
+pub fixed-same : {I : Market} {a b : Answer} → SameAnswer I a b → isFixed a ≡ isFixed b
+fixed-same (same-up e) = refl
+fixed-same (same-down e) = refl
+fixed-same same-fixed = refl
 
 pub far-alike : {I J : Market} (A : Alike I J) (c : ℕ → ℕ) {p q : ℕ → ℕ} (e : Same I p q) (a : Answer) → farOf I c p a ≡ farOf J c q a
 far-alike A c e (U v) = weight-alike A e c v v (λ i u. refl)
@@ -45,10 +54,19 @@ module _ {I J : Market} (M : Proper I) (N : Proper J) (A : Alike I J) (c : ℕ �
       (λ l. answer-alike M N A c e P (hold-at M p u l))
 
   -- so the largest cost over one is the robustness in the other
-  pub costs-alike : maximum (I .proposers .size) (costs I c p) ≡ robustness J c q (answerOf J c q)
+  costs-alike : maximum (I .proposers .size) (costs I c p) ≡ robustness J c q (answerOf J c q)
   unfolding robustness
   costs-alike =
       maximum-same (I .proposers .size) (costs I c p) (λ s. cost J c q s (answerOf J c q s))
       (λ s u.
       ap (λ (k : ℕ). k - c s) (far-same c p (answer-each u) ∙ far-alike A c e (answerOf J c q s)) ∙ cost-far J c q s (answerOf J c q s))
       ∙ ap (λ (n : ℕ). maximum n (λ s. cost J c q s (answerOf J c q s))) (A .proposing .size)
+
+  -- and the grade over one is that in the other
+  pub grade-alike : gradeIn I c p ≡ gradeBy (J .proposers .size) (answerOf J c q) (robustness J c q (answerOf J c q))
+  unfolding gradeBy
+  grade-alike =
+      ap₂ (λ (t : Bool) (g : ℕ). pick t (graded g) allFixed)
+      (some-cong {k = I .proposers .size} (λ s u. ap not (fixed-same (answer-each u)))
+      ∙ ap (some (λ s. not (isFixed (answerOf J c q s)))) (A .proposing .size))
+      costs-alike

@@ -1,22 +1,27 @@
 -- From the groups and what is measured of them to the answer for each pair, and the grade from the distances. Assumes
 -- nothing.
 use Prim.Native.Nat.{ℕ, _-_, _≤_, _<_}
-use mathlib.Core.Path.{_≡_, refl, _∙_, ap}
+use mathlib.Core.Path.{_≡_, refl, sym, _∙_, ap, ap₂}
+use mathlib.Core.Bool.{Bool, true, false, not}
 use mathlib.Core.List.{List}
 use native.Mathlib.Omega.{arith}
+use lib.Dec.{eqb}
 use lib.ListN.{length}
 use borrow.Author.Tests.{lt-ltb, le-ltb, le-leb, lt-leb}
-use Rattle.laws.specs.Choice.{split}
+use Rattle.laws.specs.Choice.{pick, split}
+use Rattle.laws.specs.First.{some-cong}
 use Rattle.laws.specs.Maximum.{maximum, maximum-same}
 use Rattle.laws.specs.Values.{vec}
 use Rattle.format.specs.Record.{Record}
 use Rattle.stable_theory.specs.Stable.Market.{Market}
 use Rattle.stable_theory.specs.Repairs.Repair.{IsDown, IsUp, weight}
-use Rattle.stable_theory.specs.Repairs.Answer.{Answer, SameAnswer, same-up, same-down, same-fixed}
+use Rattle.stable_theory.specs.Repairs.Answer.{Answer, U, D, F, answerOf, SameAnswer, same-up, same-down, same-fixed}
 use Rattle.matchings.specs.declared.places.Places.{Places}
 use Rattle.instances.specs.Usable.{marketIn}
+use Rattle.repairs.specs.declared.answer.Grade.{Grade}
+use Rattle.repairs.specs.Grade.{isFixed, graded, allFixed, gradeBy, gradeAnswer}
 use Rattle.nearest.specs.Tried.{noRepair, Distant}
-use Rattle.nearest.specs.Nearest.{GivenIn, BothWeighed, costs}
+use Rattle.nearest.specs.Nearest.{GivenIn, BothWeighed, costs, gradeIn}
 use Rattle.nearest.specs.Laws.Tried.{answers-down, answers-up, answers-fixed, right}
 use Rattle.nearest.specs.Laws.Grade.{far-same}
 use Rattle.nearest.specs.Laws.Nearest.{weight-below}
@@ -24,13 +29,27 @@ use Rattle.pair_groups.specs.declared.groups.Groups.{Groups}
 use Rattle.pair_groups.specs.Groups.{GroupsOf}
 use Rattle.pair_measures.specs.Measured.{leadFar, BothMeasured, Filled}
 use Rattle.pair_measures.specs.Laws.Leads.{lead-distant, lead-most}
-use Rattle.pair_answers.specs.Answered.{letterByte, AnswerAt, PairsAnswered}
+use Rattle.pair_answers.specs.Answered.{letterByte, AnswerAt, gradeFrom, PairsAnswered}
 
 -- the same answer has the same letter
 letter-same : {I : Market} {a b : Answer} → SameAnswer I a b → letterByte a ≡ letterByte b
 letter-same (same-up e) = refl
 letter-same (same-down e) = refl
 letter-same same-fixed = refl
+
+-- and is `F` exactly where the answer is
+letter-fixed : (a : Answer) → eqb (letterByte a) 70 ≡ isFixed a
+letter-fixed (U v) = refl
+letter-fixed (D v) = refl
+letter-fixed F = refl
+
+-- The grade by a test: the number where it passes, and otherwise that all are fixed
+module _ {found test : Bool} (e : found ≡ test) where
+  pub grade-some : found ≡ true → {g h : ℕ} → h ≡ g → graded h ≡ pick test (graded g) allFixed
+  grade-some f {g} q = ap graded q ∙ sym (ap (λ (t : Bool). pick t (graded g) allFixed) (sym e ∙ f))
+
+  pub grade-none : found ≡ false → (g : ℕ) → allFixed ≡ pick test (graded g) allFixed
+  grade-none f g = sym (ap (λ (t : Bool). pick t (graded g) allFixed) (sym e ∙ f))
 
 -- The groups of a stable matching of a record, what is measured of them, and what is filled in
 module _ {R : Record} {p : Places} (G : GivenIn R p) {weights wweights : List ℕ} (B : BothWeighed R (vec (p .men)) weights wweights) {groups : Groups} (W : GroupsOf R (vec (p .men)) groups) {above below : ℕ → ℕ} (letters distances : List ℕ)
@@ -96,14 +115,25 @@ module _ {R : Record} {p : Places} (G : GivenIn R p) {weights wweights : List �
           distance = E .distance u ∙ rw (lt-ltb (near s) (over s) b) (e ∙ far-same c men Q);
         })
 
-  -- and the largest of the distances, each less the man's own weight, is the grade
-  pub pairs-answered : {grade : ℕ} → n ≤ length letters → n ≤ length distances → grade ≡ maximum n (λ s. vec distances s - c s) →
+  -- the letter of a repair tells that the answer is one, and the largest of the distances, each less the man's own
+  -- weight, is the largest cost
+  grade-in : gradeFrom n letters (maximum n (λ s. vec distances s - c s)) ≡ gradeIn I c men
+  unfolding gradeBy
+  grade-in =
+      ap₂ (λ (t : Bool) (g : ℕ). pick t (graded g) allFixed)
+      (some-cong {k = n} (λ s u. ap (λ (l : ℕ). not (eqb l 70)) (answer-at u .letter) ∙ ap not (letter-fixed (answerOf I c men s))))
+      (maximum-same n (λ s. vec distances s - c s) (costs I c men) (λ s u. ap (λ (d : ℕ). d - c s) (answer-at u .distance)))
+
+  -- so the grade is that over the record
+  pub pairs-answered :
+      {grade : Grade} → n ≤ length letters → n ≤ length distances →
+      gradeAnswer grade ≡ gradeFrom n letters (maximum n (λ s. vec distances s - c s)) →
       PairsAnswered R c p letters distances (record { grade = grade; rotations = groups .rotations })
   pairs-answered l d e =
       record {
         letters-long = l;
         distances-long = d;
         at = λ u. answer-at u;
-        largest-cost = e ∙ maximum-same n (λ s. vec distances s - c s) (costs I c men) (λ s u. ap (λ (d : ℕ). d - c s) (answer-at u .distance));
+        grade-is = e ∙ grade-in;
         all-rotations = W .all-rotations;
       }

@@ -1,5 +1,5 @@
--- `grade_in` meets its contract: what the check of the matching or the weights refuses, and else the largest cost over
--- the record. Assumes nothing.
+-- `grade_in` meets its contract: what the check of the matching or the weights refuses, and else the grade over the
+-- record. Assumes nothing.
 use mathlib.Core.Path.{refl, sym, _∙_, ap}
 use native.Mathlib.Omega.{arith}
 use denote.Ref.{now}
@@ -9,6 +9,7 @@ use Rattle.format.specs.Laws.Outcome.{after-refused, after-fine}
 use Rattle.format.specs.Record.{Record, lent}
 use Rattle.format.specs.Verdict.{Verdict, verdictOf}
 use Rattle.stability.specs.Judge.{EachBook}
+use Rattle.repairs.specs.Grade.{allFixed}
 use Rattle.nearest.specs.Laws.Book.{judged-usable, judged-given, grade-book}
 use Rattle.nearest.specs.Laws.Weighed.{Allowed, weights-told, weights-allowed, allowed-weighed}
 use Rattle.grade.proofs.robustness.grade_in.Statement.{statement}
@@ -42,7 +43,7 @@ returns : tie.Need-returns
 returns c =
     let d : tie.After-check-weights = search in
     let e = ap verdictOf (c .before .enum-told2 .given .1) in
-    λ b B. after-refused (sym (weights-told (before d .judge .ensures) _ (d .check-weights .ensures) b B) ∙ e) _ (c .ungraded .ensures ∙ ap (λ (v : Verdict). after v 0) e)
+    λ b B. after-refused (sym (weights-told (before d .judge .ensures) _ (d .check-weights .ensures) b B) ∙ e) _ (c .ungraded .ensures ∙ ap (λ (v : Verdict). after v allFixed) e)
 
 answer-pairs-requires : tie.Need-answer-pairs-requires
 answer-pairs-requires c κs =
@@ -58,7 +59,7 @@ returns-2 c =
     let t : tie.After-enum-told = search in
     λ b B.
     let A = allowed t b B in
-    after-fine (A .weighed) (p .answer-pairs .ensures .largest-cost ∙ grade-book (A .judged) (A .stable) _) refl
+    after-fine (A .weighed) (p .answer-pairs .ensures .grade-is ∙ grade-book (A .judged) (A .stable) _) refl
 
 pub grade-in-spec : {M : Type 1} → statement M
 grade-in-spec =

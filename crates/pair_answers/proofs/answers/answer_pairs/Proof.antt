@@ -45,7 +45,7 @@ grade-of-requires c κs =
     let l : tie.After-distances = search in
     let f : tie.After-fill-answers = search in
     let s = start (grouped (measured f)) in
-    (omega (arith, l .distances .given, s .pre .1 .1), s .pre .0 .2 .men .long)
+    (omega (arith, l .before .before .letters .given, s .pre .1 .0), omega (arith, l .distances .given, s .pre .1 .1), s .pre .0 .2 .men .long)
 
 returns : tie.Need-returns
 returns c =
@@ -74,7 +74,6 @@ answer-pairs-spec =
     (λ c. search needs)
     fill-answers-requires
     grade-of-requires
-    (λ c. search needs)
     (λ c. search needs)
     (λ c. search needs)
     returns)
