@@ -1,4 +1,5 @@
 // The sheet of a stable matching: line one and the lines of the men, from the answers for all pairs.
+use crate::fixed::count_fixed;
 use format::Instance;
 use matchings::Places;
 use pair_answers::answer_pairs;
@@ -48,6 +49,8 @@ pub fn put_answers<'a>(
         &mut letters[..],
         &mut distances[..],
     );
-    let end = put_top(text, 0, n, all.rotations, all.grade);
+    let fixed = count_fixed(n, matching, &letters[..]);
+    let grade = all.grade;
+    let end = put_top(text, 0, n, all.rotations, fixed, grade);
     put_lines(text, end, n, matching, &letters[..], &distances[..])
 }

@@ -1,4 +1,5 @@
 // The sheet of a stable matching, over the record of a book.
 mod answers;
+mod fixed;
 
 pub use answers::put_answers;

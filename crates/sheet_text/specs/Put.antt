@@ -6,10 +6,16 @@ use lib.ListN.{length}
 use Rattle.laws.specs.Overwrite.{overwritten}
 use Rattle.laws.specs.Values.{vec}
 use Rattle.format.specs.Format.{largest}
+use Rattle.repairs.specs.Grade.{GradeAnswer, graded, allFixed}
 
 -- A number of at most five digits, as every number of a sheet is
 abbrev pub FiveDigits : ℕ → Type 0
 FiveDigits x = x < 100000
+
+-- A grade whose number, where it is one, has at most five digits
+abbrev pub ShortGrade : GradeAnswer → Type 0
+ShortGrade (graded g) = FiveDigits g
+ShortGrade allFixed = Unit {0}
 
 -- What the lines of n students are made of: so many entries, letters and distances, few students, and short distances
 pub record LinesGiven (n : ℕ) (matching letters distances : List ℕ) : Type 0 where

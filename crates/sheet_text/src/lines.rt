@@ -5,27 +5,52 @@ use format::Checked;
 use format::Man;
 use format::Partner;
 use format::Woman;
+use repairs::Grade;
 use rows::next_man;
 use rows::partner_of;
 use rows::wide;
 ghost use Prim.Native.Nat.{_+_, _≤_, _<_};
+ghost use mathlib.Core.List.{[], _∷_, _++_};
 ghost use lib.ListN.{length};
 ghost use Rattle.laws.specs.Moment.{now₀, now₁, vec₀};
 ghost use Rattle.laws.specs.Values.{vec};
 ghost use Rattle.format.specs.Verdict.{verdictOf};
 ghost use Rattle.format.specs.Format.{entryIn};
-ghost use Rattle.sheets.specs.Line.{topLine, pairLine, aloneLine, studentLine, studentLines, refusalLine, refusedLine};
-ghost use Rattle.sheet_text.specs.Put.{Put, FiveDigits, LinesGiven};
+ghost use Rattle.repairs.specs.Grade.{gradeAnswer};
+ghost use Rattle.sheets.specs.Line.{lineFeed, gradeField, topLine, pairLine, aloneLine, studentLine, studentLines, refusalLine, refusedLine};
+ghost use Rattle.sheet_text.specs.Put.{Put, FiveDigits, ShortGrade, LinesGiven};
 
-// Line one: n, the number of rotations, the grade.
-pub fn put_top(out: &mut [u8], at: usize, n: usize, rotations: usize, grade: usize) -> usize
-    requires { ⌜ (at + length (topLine n rotations grade) ≤ length (now out)) ×
-        FiveDigits n × FiveDigits rotations × FiveDigits grade ⌝ }
-    ensures { λ r. ⌜ Put (now₀ out) at (topLine n rotations grade) (now₁ out) r ⌝ }
+// The grade and the end of its line: its number, or `-` where no pair can be repaired.
+fn put_grade(out: &mut [u8], at: usize, grade: Grade) -> usize
+    requires { ⌜ (at + length (gradeField (gradeAnswer grade)) < length (now out)) × ShortGrade (gradeAnswer grade) ⌝ }
+    ensures { λ r. ⌜ Put (now₀ out) at (gradeField (gradeAnswer grade) ++ (lineFeed ∷ [])) (now₁ out) r ⌝ }
+{
+    match grade {
+        Grade::Number(g) => put_field(out, at, g, b'\n'),
+        Grade::AllFixed => {
+            let end = put_byte(out, at, b'-');
+            put_byte(out, end, b'\n')
+        }
+    }
+}
+
+// Line one: n, the number of rotations, the number of fixed pairs, the grade.
+pub fn put_top(
+    out: &mut [u8],
+    at: usize,
+    n: usize,
+    rotations: usize,
+    fixed: usize,
+    grade: Grade,
+) -> usize
+    requires { ⌜ at + length (topLine n rotations fixed (gradeAnswer grade)) ≤ length (now out) ⌝ }
+    requires { ⌜ FiveDigits n × FiveDigits rotations × FiveDigits fixed × ShortGrade (gradeAnswer grade) ⌝ }
+    ensures { λ r. ⌜ Put (now₀ out) at (topLine n rotations fixed (gradeAnswer grade)) (now₁ out) r ⌝ }
 {
     let second = put_field(out, at, n, b' ');
     let third = put_field(out, second, rotations, b' ');
-    put_field(out, third, grade, b'\n')
+    let fourth = put_field(out, third, fixed, b' ');
+    put_grade(out, fourth, grade)
 }
 
 // The line of a pair: man, woman, letter, distance.

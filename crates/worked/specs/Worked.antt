@@ -1,6 +1,6 @@
--- The cases that document 01 marks P, and some of W-203, proved of the definitions that the contracts cite: one table
--- of what is computed and what the papers say, and one computed fact that covers its rows. Books and matchings are the
--- bytes of document 01. Assumes nothing.
+-- The cases that document 01 marks P, their sheets as W-204 has them, and some of W-203 and W-204, proved of the
+-- definitions that the contracts cite: one table of what is computed and what the papers say, and one computed fact
+-- that covers its rows. Books and matchings are the bytes of document 01. Assumes nothing.
 use Prim.Native.Nat.{ℕ, _<_}
 use mathlib.Core.Path.{_≡_, refl}
 use mathlib.Core.Bool.{true}
@@ -25,11 +25,13 @@ use Rattle.stable_theory.specs.Rotations.Subset.{after, vectorOf, required, pre
 use Rattle.matchings.specs.BookMarket.{market}
 use Rattle.matchings.specs.Matching.{blocks, bestBlocking, lowestBlocking, checkListed, checkNames, checkStable, checkMatching}
 use Rattle.matchings.specs.Extreme.{manOptimal, womanOptimal}
+use Rattle.repairs.specs.Weights.{checkWeights}
+use Rattle.repairs.specs.Grade.{fixedCount, gradeBy}
 use Rattle.rotations.specs.RotationList.{rotationBytes}
 use Rattle.rotations.specs.Sets.{badMarks, checkSet, setMatching}
 use Rattle.sheets.specs.Decimal.{decimalIn, decimal}
 use Rattle.sheets.specs.Line.{line, topLine, pairLine, aloneLine, studentLine, studentLines, refusalLine}
-use Rattle.sheets.specs.Sheet.{answers, sheetOf}
+use Rattle.sheets.specs.Sheet.{answers, sheetOf, weightedSheetOf}
 use Rattle.worked.specs.Agree.{Row, agree, agree-each}
 
 -- The book of two students and two mentors: students 0 1 and 1 0, mentors 1 0 and 0 1
@@ -57,6 +59,16 @@ short =
     18 ∷ 0 ∷ 1 ∷ 0 ∷ 19 ∷ 0 ∷ 1 ∷ 0 ∷ 20 ∷ 0 ∷ 2 ∷ 0 ∷ 22 ∷ 0 ∷ 0 ∷ 0 ∷
     0 ∷ 0 ∷
     0 ∷ 1 ∷
+    []
+
+-- The book of three students, 0 1 2 and 0 1 2 and 2 1 0, and three mentors, 2 1 0 and 1 2 0 and 0 1 2. Its stable
+-- matchings are 1 0 2, 2 0 1 and 2 1 0
+abbrev pub three : List ℕ
+three =
+    1 ∷ 3 ∷
+    26 ∷ 0 ∷ 3 ∷ 0 ∷ 29 ∷ 0 ∷ 3 ∷ 0 ∷ 32 ∷ 0 ∷ 3 ∷ 0 ∷ 35 ∷ 0 ∷ 3 ∷ 0 ∷ 38 ∷ 0 ∷ 3 ∷ 0 ∷ 41 ∷ 0 ∷ 3 ∷ 0 ∷
+    0 ∷ 1 ∷ 2 ∷ 0 ∷ 1 ∷ 2 ∷ 2 ∷ 1 ∷ 0 ∷
+    2 ∷ 1 ∷ 0 ∷ 1 ∷ 2 ∷ 0 ∷ 0 ∷ 1 ∷ 2 ∷
     []
 
 -- Table 1 of document 000: edition and n, the directory, the lists of the students and those of the mentors
@@ -89,14 +101,14 @@ numbers (refused number place second) = number ∷ place ∷ second ∷ []
 -- Each row: what is computed, and what the papers say
 abbrev pub table : List Row
 table =
-    -- n = 0, empty matching: sheet `0 0 0`
-    (sheetOf (1 ∷ 0 ∷ []), 48 ∷ 32 ∷ 48 ∷ 32 ∷ 48 ∷ 10 ∷ []) ∷
-    -- n = 1: `1 0 0`, then `0 0 F 0`
-    (sheetOf (1 ∷ 1 ∷ 10 ∷ 0 ∷ 1 ∷ 0 ∷ 11 ∷ 0 ∷ 1 ∷ 0 ∷ 0 ∷ 0 ∷ 0 ∷ []), 49 ∷ 32 ∷ 48 ∷ 32 ∷ 48 ∷ 10 ∷ 48 ∷ 32 ∷ 48 ∷ 32 ∷ 70 ∷ 32 ∷ 48 ∷ 10 ∷ []) ∷
-    -- two by two, matching 0 1: `2 1 1` and two D lines of distance 2
-    (sheetOf (two ++ (0 ∷ 1 ∷ [])), 50 ∷ 32 ∷ 49 ∷ 32 ∷ 49 ∷ 10 ∷ 48 ∷ 32 ∷ 48 ∷ 32 ∷ 68 ∷ 32 ∷ 50 ∷ 10 ∷ 49 ∷ 32 ∷ 49 ∷ 32 ∷ 68 ∷ 32 ∷ 50 ∷ 10 ∷ []) ∷
+    -- n = 0, empty matching: sheet `0 0 0 -`
+    (sheetOf (1 ∷ 0 ∷ []), 48 ∷ 32 ∷ 48 ∷ 32 ∷ 48 ∷ 32 ∷ 45 ∷ 10 ∷ []) ∷
+    -- n = 1: `1 0 1 -`, then `0 0 F 0`
+    (sheetOf (1 ∷ 1 ∷ 10 ∷ 0 ∷ 1 ∷ 0 ∷ 11 ∷ 0 ∷ 1 ∷ 0 ∷ 0 ∷ 0 ∷ 0 ∷ []), 49 ∷ 32 ∷ 48 ∷ 32 ∷ 49 ∷ 32 ∷ 45 ∷ 10 ∷ 48 ∷ 32 ∷ 48 ∷ 32 ∷ 70 ∷ 32 ∷ 48 ∷ 10 ∷ []) ∷
+    -- two by two, matching 0 1: `2 1 0 1` and two D lines of distance 2
+    (sheetOf (two ++ (0 ∷ 1 ∷ [])), 50 ∷ 32 ∷ 49 ∷ 32 ∷ 48 ∷ 32 ∷ 49 ∷ 10 ∷ 48 ∷ 32 ∷ 48 ∷ 32 ∷ 68 ∷ 32 ∷ 50 ∷ 10 ∷ 49 ∷ 32 ∷ 49 ∷ 32 ∷ 68 ∷ 32 ∷ 50 ∷ 10 ∷ []) ∷
     -- matching 1 0: two U lines
-    (sheetOf (two ++ (1 ∷ 0 ∷ [])), 50 ∷ 32 ∷ 49 ∷ 32 ∷ 49 ∷ 10 ∷ 48 ∷ 32 ∷ 49 ∷ 32 ∷ 85 ∷ 32 ∷ 50 ∷ 10 ∷ 49 ∷ 32 ∷ 48 ∷ 32 ∷ 85 ∷ 32 ∷ 50 ∷ 10 ∷ []) ∷
+    (sheetOf (two ++ (1 ∷ 0 ∷ [])), 50 ∷ 32 ∷ 49 ∷ 32 ∷ 48 ∷ 32 ∷ 49 ∷ 10 ∷ 48 ∷ 32 ∷ 49 ∷ 32 ∷ 85 ∷ 32 ∷ 50 ∷ 10 ∷ 49 ∷ 32 ∷ 48 ∷ 32 ∷ 85 ∷ 32 ∷ 50 ∷ 10 ∷ []) ∷
     -- the other two by two, matching 1 0: refused 10, student 0, mentor 0
     (numbers (checkMatching alike (1 ∷ 0 ∷ [])), 10 ∷ 0 ∷ 0 ∷ []) ∷
     -- and so in its sheet
@@ -112,24 +124,29 @@ table =
     (numbers (checkSet table1 (1 ∷ 1 ∷ 1 ∷ 0 ∷ 0 ∷ 0 ∷ []) 7), []) ∷
     -- set 2 alone: refused 16
     (numbers (checkSet table1 (0 ∷ 0 ∷ 1 ∷ 0 ∷ 0 ∷ 0 ∷ []) 7), 16 ∷ 0 ∷ 0 ∷ []) ∷
-    -- the sheet of section 'The sheet'
-    (sheetOf (table1 ++ (4 ∷ 5 ∷ 6 ∷ 3 ∷ 1 ∷ 2 ∷ 0 ∷ [])), 55 ∷ 32 ∷ 54 ∷ 32 ∷ 51 ∷ 10 ∷ 48 ∷ 32 ∷ 52 ∷ 32 ∷ 85 ∷ 32 ∷ 50 ∷ 10 ∷ 49 ∷ 32 ∷ 53 ∷ 32 ∷ 85 ∷ 32 ∷ 52 ∷ 10 ∷ 50 ∷ 32 ∷ 54 ∷ 32 ∷ 68 ∷ 32 ∷ 50 ∷ 10 ∷ 51 ∷ 32 ∷ 51 ∷ 32 ∷ 68 ∷ 32 ∷ 52 ∷ 10 ∷ 52 ∷ 32 ∷ 49 ∷ 32 ∷ 68 ∷ 32 ∷ 50 ∷ 10 ∷ 53 ∷ 32 ∷ 50 ∷ 32 ∷ 85 ∷ 32 ∷ 50 ∷ 10 ∷ 54 ∷ 32 ∷ 48 ∷ 32 ∷ 68 ∷ 32 ∷ 50 ∷ 10 ∷ []) ∷
-    -- W-203, student 1 has no mentor: `2 0 0`, `0 0 F 0` and `1 - N 0`
-    (sheetOf (short ++ (0 ∷ 255 ∷ [])), 50 ∷ 32 ∷ 48 ∷ 32 ∷ 48 ∷ 10 ∷ 48 ∷ 32 ∷ 48 ∷ 32 ∷ 70 ∷ 32 ∷ 48 ∷ 10 ∷ 49 ∷ 32 ∷ 45 ∷ 32 ∷ 78 ∷ 32 ∷ 48 ∷ 10 ∷ []) ∷
+    -- the sheet of section 'The sheet', beginning `7 6 0 3`
+    (sheetOf (table1 ++ (4 ∷ 5 ∷ 6 ∷ 3 ∷ 1 ∷ 2 ∷ 0 ∷ [])), 55 ∷ 32 ∷ 54 ∷ 32 ∷ 48 ∷ 32 ∷ 51 ∷ 10 ∷ 48 ∷ 32 ∷ 52 ∷ 32 ∷ 85 ∷ 32 ∷ 50 ∷ 10 ∷ 49 ∷ 32 ∷ 53 ∷ 32 ∷ 85 ∷ 32 ∷ 52 ∷ 10 ∷ 50 ∷ 32 ∷ 54 ∷ 32 ∷ 68 ∷ 32 ∷ 50 ∷ 10 ∷ 51 ∷ 32 ∷ 51 ∷ 32 ∷ 68 ∷ 32 ∷ 52 ∷ 10 ∷ 52 ∷ 32 ∷ 49 ∷ 32 ∷ 68 ∷ 32 ∷ 50 ∷ 10 ∷ 53 ∷ 32 ∷ 50 ∷ 32 ∷ 85 ∷ 32 ∷ 50 ∷ 10 ∷ 54 ∷ 32 ∷ 48 ∷ 32 ∷ 68 ∷ 32 ∷ 50 ∷ 10 ∷ []) ∷
+    -- W-203, student 1 has no mentor: `2 0 1 -`, `0 0 F 0` and `1 - N 0`
+    (sheetOf (short ++ (0 ∷ 255 ∷ [])), 50 ∷ 32 ∷ 48 ∷ 32 ∷ 49 ∷ 32 ∷ 45 ∷ 10 ∷ 48 ∷ 32 ∷ 48 ∷ 32 ∷ 70 ∷ 32 ∷ 48 ∷ 10 ∷ 49 ∷ 32 ∷ 45 ∷ 32 ∷ 78 ∷ 32 ∷ 48 ∷ 10 ∷ []) ∷
     -- student 0 has none, and mentor 0 prefers him: refused 10, student 0, mentor 0
     (numbers (checkMatching short (255 ∷ 0 ∷ [])), 10 ∷ 0 ∷ 0 ∷ []) ∷
     -- student 1 and mentor 1 do not list each other: refused 19
     (numbers (checkMatching short (0 ∷ 1 ∷ [])), 19 ∷ 0 ∷ 0 ∷ []) ∷
     -- in edition 1 the byte 255 is a clash: refused 9
     (numbers (checkMatching alike (0 ∷ 255 ∷ [])), 9 ∷ 1 ∷ 0 ∷ []) ∷
+    -- W-204, one student and one mentor with empty lists, and so no pair: `1 0 0 -` and `0 - N 0`
+    (sheetOf (2 ∷ 1 ∷ 10 ∷ 0 ∷ 0 ∷ 0 ∷ 10 ∷ 0 ∷ 0 ∷ 0 ∷ 255 ∷ []), 49 ∷ 32 ∷ 48 ∷ 32 ∷ 48 ∷ 32 ∷ 45 ∷ 10 ∷ 48 ∷ 32 ∷ 45 ∷ 32 ∷ 78 ∷ 32 ∷ 48 ∷ 10 ∷ []) ∷
+    -- three by three, matching 2 0 1, weights 1 0 0: the repair for student 0 weighs 1, which is his own weight, and
+    -- the others 0, so that the grade is 0 and a number: `3 2 0 0`, `0 2 U 1`, `1 0 D 0` and `2 1 D 0`
+    (weightedSheetOf (three ++ (2 ∷ 0 ∷ 1 ∷ 1 ∷ 0 ∷ 0 ∷ [])), 51 ∷ 32 ∷ 50 ∷ 32 ∷ 48 ∷ 32 ∷ 48 ∷ 10 ∷ 48 ∷ 32 ∷ 50 ∷ 32 ∷ 85 ∷ 32 ∷ 49 ∷ 10 ∷ 49 ∷ 32 ∷ 48 ∷ 32 ∷ 68 ∷ 32 ∷ 48 ∷ 10 ∷ 50 ∷ 32 ∷ 49 ∷ 32 ∷ 68 ∷ 32 ∷ 48 ∷ 10 ∷ []) ∷
     []
 
 -- What is computed is what the papers say, in every row
 pub worked : agree table ≡ true
-unfolding decimalIn decimal line topLine pairLine aloneLine studentLine studentLines refusalLine answers sheetOf
+unfolding decimalIn decimal line topLine pairLine aloneLine studentLine studentLines refusalLine answers sheetOf weightedSheetOf checkWeights
     edition partial people offset listLength due entry place onList entryIn markIn size extent firstFaulty firstClash firstFaultyList checkLists
     checkOutline allowedLength firstWrongPair oneSided checkReturned checkHeader checkDirectory checkFrame checkBook
-    mirror holder holding least settle onward rejected outranks proposer-optimal receiver-optimal isStable unheld reaching places partners down up moved weight answerOf nearer cost robustness
+    mirror holder holding least settle onward rejected outranks proposer-optimal receiver-optimal isStable unheld reaching places partners down up moved weight answerOf nearer cost robustness fixedCount gradeBy
     eliminate pairOf passed preferred willing nextPlace follow followers lowest rotationAt rotationsFrom rotations after vectorOf required precedes closed returns period backAfter
     market blocks bestBlocking lowestBlocking checkListed checkNames checkStable checkMatching manOptimal womanOptimal badMarks checkSet setMatching
 worked = refl

@@ -24,12 +24,12 @@ use Rattle.matchings.specs.Laws.StableVector.{vector-stable}
 use Rattle.stability.specs.Laws.Judged.{BookJudged}
 use Rattle.instances.specs.Usable.{marketIn}
 use Rattle.repairs.specs.Repair.{answerFor}
-use Rattle.repairs.specs.Grade.{gradeOf}
+use Rattle.repairs.specs.Grade.{fixedCount, gradeAnswer, gradeOf}
 use Rattle.repairs.specs.Promise.{PairIn}
 use Rattle.repairs.specs.Laws.Bytes.{moved-vector}
 use Rattle.repairs.specs.Laws.RepairBytes.{holds}
 use Rattle.repairs.specs.Laws.AnswerBytes.{alone-answer}
-use Rattle.nearest.specs.Nearest.{farOf}
+use Rattle.nearest.specs.Nearest.{farOf, gradeIn}
 use Rattle.nearest.specs.Laws.Book.{judged-formed, judged-number, judged-alike, judged-usable, answer-book, far-book, grade-book}
 use Rattle.sheets.specs.Line.{topLine, studentLines}
 use Rattle.sheets.specs.LineLaws.{lines-same}
@@ -38,7 +38,8 @@ use Rattle.pair_answers.specs.declared.answers.Summary.{Summary}
 use Rattle.pair_answers.specs.Answered.{letterByte, PairsAnswered}
 use Rattle.sheet_text.specs.Put.{Put}
 use Rattle.sheet_text.specs.Laws.Put.{put-on, put-long}
-use Rattle.sheet_answers.specs.Over.{letterIn, distanceIn, sheetIn, sheetOver}
+use Rattle.sheet_answers.specs.Over.{letterIn, distanceIn, fixedAmong, sheetIn, sheetOver}
+use Rattle.sheet_answers.specs.Laws.Fixed.{among-same, fixed-letters}
 
 -- the byte of an answer's letter
 letter-byte : (a : Answer) → letterByte a ≡ letterOf a
@@ -46,22 +47,31 @@ letter-byte (U v) = refl
 letter-byte (D v) = refl
 letter-byte F = refl
 
-module _ {R : Record} {c : ℕ → ℕ} {p : Places} {letters distances : List ℕ} {r : Summary} (A : PairsAnswered R c p letters distances r) (m : List ℕ) where
+-- The answers for all pairs, and the number of fixed pairs of the matching m by their letters
+module _
+    {R : Record} {c : ℕ → ℕ} {p : Places} {letters distances : List ℕ} {r : Summary} (A : PairsAnswered R c p letters distances r) (m : List ℕ)
+    {fixed : ℕ} (counted : fixed ≡ fixedAmong (R .n) m (vec letters)) where
   abbrev top : List ℕ
-  top = topLine (R .n) (r .rotations) (r .grade)
+  top = topLine (R .n) (r .rotations) fixed (gradeAnswer (r .grade))
 
   abbrev lines : List ℕ
   lines = studentLines (womanOf m) (vec letters) (vec distances) (R .n)
 
-  -- the lines with the letters and distances that were collected are the sheet
+  -- the letters that were collected are those of the answers
+  letter-in : {s : ℕ} → s < R .n → vec letters s ≡ letterIn (marketIn R) c (vec (p .men)) s
+  letter-in {s} u = A .at u .letter ∙ letter-byte (answerOf (marketIn R) c (vec (p .men)) s)
+
+  -- the lines with them and the distances are the sheet
   sheet-in : top ++ lines ≡ sheetOver R c p m
   unfolding sheetIn
   sheet-in =
       let I = marketIn R in
       let v = vec (p .men) in
-      ap₂ (λ (t l : List ℕ). t ++ l) (ap₂ (topLine (R .n)) (A .all-rotations) (A .largest-cost))
+      let f : fixed ≡ fixedAmong (R .n) m (letterIn I c v) = counted ∙ among-same (R .n) m (λ s u. letter-in u) in
+      let t : top ≡ topLine (R .n) (total I) (fixedAmong (R .n) m (letterIn I c v)) (gradeIn I c v) = cc (A .all-rotations, f, A .grade-is) in
+      ap₂ (λ (t l : List ℕ). t ++ l) t
       (lines-same {w = womanOf m} {l = vec letters} {d = vec distances} {v = womanOf m} {m = letterIn I c v} {e = distanceIn I c v} (R .n)
-      (λ s u. let B = A .at u in (refl, B .letter ∙ letter-byte (answerOf I c v s), B .distance)))
+      (λ s u. (refl, letter-in u, A .at u .distance)))
 
   -- there is room for each part of it
   room : length top + length lines ≡ length (sheetOver R c p m)
@@ -121,10 +131,21 @@ module _ {b m : List ℕ} {R : Record} {j : Judged} (J : BookJudged b m R j) (f 
       let W = judged-formed J f in
       rotations-alike (judged-usable J f .men .proper) (market-proper W) (judged-alike J f) .0
 
+  -- and as many fixed pairs
+  fixed-book : fixedAmong (R .n) m (letterIn I c p) ≡ fixedCount b c m
+  fixed-book =
+      among-same (R .n) m (λ s u. letter-book u)
+      ∙ ap (λ (n : ℕ). fixedAmong n m (λ s. letterOf (answerFor b c m s))) (judged-number J f)
+      ∙ fixed-letters b c m
+
   -- and the sheet over the record is the sheet of the bytes
   pub sheet-over : sheetOver R c (j .places) m ≡ answers b c m
   unfolding sheetIn answers
   sheet-over =
-      rw (totals, grade-book J f c, ← judged-number J f)
-      (ap (λ (l : List ℕ). topLine (R .n) (total (market b)) (gradeOf b c m) ++ l)
-      (lines-same (R .n) (λ s u. (refl, letter-book u, distance-book u))))
+      let letters : ℕ → ℕ = λ s. letterOf (answerFor b c m s) in
+      let distances : ℕ → ℕ = λ s. distanceOf b c m (answerFor b c m s) in
+      rw (totals, fixed-book, grade-book J f c)
+      (ap₂ (λ (t l : List ℕ). t ++ l)
+      (ap (λ (n : ℕ). topLine n (total (market b)) (fixedCount b c m) (gradeOf b c m)) (judged-number J f))
+      (lines-same (R .n) (λ s u. (refl, letter-book u, distance-book u))
+      ∙ ap (studentLines (womanOf m) letters distances) (judged-number J f)))

@@ -9,7 +9,6 @@ use lib.ListN.{length, length-append}
 use lib.Dec.{eqb}
 use Rattle.laws.specs.Choice.{split}
 use Rattle.laws.specs.SumLaws.{sum-most}
-use Rattle.laws.specs.Maximum.{maximum-le}
 use Rattle.format.specs.Verdict.{Verdict, fine, refused}
 use Rattle.format.specs.Format.{largest, people, nobody}
 use Rattle.format.specs.WellFormed.{WellFormed}
@@ -17,10 +16,10 @@ use Rattle.format.specs.Laws.Verdict.{all-fine}
 use Rattle.format.specs.Laws.Numbers.{numberOf, by-rule, by-both}
 use Rattle.stable_theory.specs.Stable.Market.{Market}
 use Rattle.stable_theory.specs.Repairs.Repair.{moved, weight}
-use Rattle.stable_theory.specs.Repairs.Answer.{Answer, U, D, F, cost, robustness}
+use Rattle.stable_theory.specs.Repairs.Answer.{Answer, U, D, F}
 use Rattle.stable_theory.specs.Rotations.Numbering.{total}
 use Rattle.matchings.specs.BookMarket.{market}
-use Rattle.matchings.specs.Matching.{vectorOf, checkMatching, womanOf, MatchingIn}
+use Rattle.matchings.specs.Matching.{checkMatching, womanOf, MatchingIn}
 use Rattle.matchings.specs.Extreme.{matchingOf}
 use Rattle.matchings.specs.Laws.Blocking.{alone-entry}
 use Rattle.matchings.specs.Laws.StableCheck.{fine-stable}
@@ -28,12 +27,14 @@ use Rattle.matchings.specs.Laws.Numbers.{matching-most}
 use Rattle.rotations.specs.Largest.{rotations-within}
 use Rattle.repairs.specs.Weights.{weightOf, checkWeights, checkWeighed}
 use Rattle.repairs.specs.Repair.{answerFor}
-use Rattle.repairs.specs.Grade.{gradeOf}
+use Rattle.repairs.specs.Grade.{fixedCount, gradeOf}
+use Rattle.repairs.specs.Laws.GradeBound.{grade-bound}
 use Rattle.nearest.specs.Nearest.{farOf}
 use Rattle.sheets.specs.Line.{topLine, studentLines}
 use Rattle.sheets.specs.Longest.{digits, totalDigits, topMost, studentMost, longest, weightedLongest}
 use Rattle.sheets.specs.Sheet.{letterOf, distanceOf, answers, sheetAfter, sheetFor, weightedSheetFor}
 use Rattle.sheet_text.specs.Laws.Lines.{top-short, refusal-short, lines-short}
+use Rattle.sheet_answers.specs.Laws.Fixed.{among-most, fixed-letters}
 
 -- Weights of at most h
 module _ (b : List ℕ) (c : ℕ → ℕ) (m : List ℕ) {h : ℕ} (light : (i : ℕ) → i < people b → c i ≤ h) where
@@ -50,20 +51,6 @@ far-most I c p {h} light (U v) = sum-most (I .proposers .size) h (moved p v) c l
 far-most I c p {h} light (D v) = sum-most (I .proposers .size) h (moved p v) c light
 far-most I c p light F = omega arith
 
--- and so is its cost
-cost-most : (I : Market) (c p : ℕ → ℕ) {h : ℕ} → ((i : ℕ) → i < I .proposers .size → c i ≤ h) → (s : ℕ) (a : Answer) → cost I c p s a ≤ I .proposers .size * h
-unfolding cost
-cost-most I c p light s (U v) = omega (arith, far-most I c p light (U v))
-cost-most I c p light s (D v) = omega (arith, far-most I c p light (D v))
-cost-most I c p light s F = omega arith
-
--- so is the grade
-pub grade-most : (b : List ℕ) (c : ℕ → ℕ) (m : List ℕ) {h : ℕ} → ((i : ℕ) → i < people b → c i ≤ h) → gradeOf b c m ≤ people b * h
-unfolding robustness market
-grade-most b c m {h} light =
-    maximum-le (people b) (λ s. cost (market b) c (vectorOf b m) s (answerFor b c m s)) (people b * h)
-    (λ s u. cost-most (market b) c (vectorOf b m) light s (answerFor b c m s))
-
 -- a mentor of a student in a matching is one of n
 woman-below : {b m : List ℕ} → MatchingIn b m → {s : ℕ} → s < people b → (womanOf m s ≡ nobody → ⊥) → womanOf m s < people b
 woman-below {b} {m} A {s} u n = split (people b) (womanOf m s) (λ l. absurd (n (alone-entry A u l))) (λ l. l)
@@ -79,12 +66,14 @@ module _ {b : List ℕ} (W : WellFormed b) (c : ℕ → ℕ) {h e : ℕ} (light 
   unfolding answers
   answers-short {m} A =
       let few : people b ≤ largest = W .few in
-      let top = topLine (people b) (total (market b)) (gradeOf b c m) in
+      let few-fixed = among-most (people b) m (λ s. letterOf (answerFor b c m s)) in
+      let top = topLine (people b) (total (market b)) (fixedCount b c m) (gradeOf b c m) in
       let lines = studentLines (womanOf m) (λ s. letterOf (answerFor b c m s)) (λ s. distanceOf b c m (answerFor b c m s)) (people b) in
       omega (
         arith,
         length-append top lines,
-        top-short {n = people b} {r = total (market b)} {g = gradeOf b c m} e some (omega arith) (omega (arith, rotations-within W)) (total-short (grade-most b c m light)),
+        top-short {n = people b} {r = total (market b)} {f = fixedCount b c m} (gradeOf b c m) e some (omega arith) (omega (arith, rotations-within W))
+            (omega (arith, fixed-letters b c m)) (λ x q. total-short (grade-bound b c m light q)),
         lines-short (womanOf m) (λ s. letterOf (answerFor b c m s)) (λ s. distanceOf b c m (answerFor b c m s)) e some (people b)
             (λ s u. (omega arith, λ n. omega (arith, woman-below A u n), total-short (distance-most b c m light (answerFor b c m s)))),
         mul-le-mul-left (2 * digits + e + 5) few,

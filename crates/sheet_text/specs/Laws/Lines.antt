@@ -15,17 +15,20 @@ use Rattle.format.specs.declared.people.Partner.the-variants.{With, Alone}
 use Rattle.format.specs.Format.{largest, nobody}
 use Rattle.format.specs.Partner.{PartnerIs}
 use Rattle.sheets.specs.Decimal.{decimalIn, decimal}
-use Rattle.sheets.specs.Line.{line, topLine, pairLine, aloneLine, studentLine, studentLines, refusalLine}
+use Rattle.repairs.specs.Grade.{GradeAnswer, graded, allFixed}
+use Rattle.sheets.specs.Line.{line, gradeField, topLine, pairLine, aloneLine, studentLine, studentLines, refusalLine}
 use Rattle.sheets.specs.LineLaws.{pair-text, alone-line}
-use Rattle.sheets.specs.Longest.{digits}
+use Rattle.sheets.specs.Longest.{digits, topMost}
 use Rattle.sheet_text.specs.Put.{Put}
 use Rattle.sheet_text.specs.Laws.Decimal.{decimal-short}
 use Rattle.sheet_text.specs.Laws.Put.{put-on, put-long}
 
 -- how long the lines are
-pub top-length : (n r g : ℕ) → length (topLine n r g) ≡ length (decimal n) + length (decimal r) + length (decimal g) + 3
+pub top-length :
+    (n r f : ℕ) (g : GradeAnswer) →
+    length (topLine n r f g) ≡ length (decimal n) + length (decimal r) + length (decimal f) + length (gradeField g) + 4
 unfolding topLine line
-top-length n r g = simp length-append (omega arith)
+top-length n r f g = simp length-append (omega arith)
 
 pub pair-length : (s w l d : ℕ) → length (pairLine s w l d) ≡ length (decimal s) + length (decimal w) + length (decimal d) + 5
 unfolding pairLine line
@@ -60,11 +63,17 @@ few-digits {x} h = decimal-short digits x (omega arith) (omega arith)
 square-digits : {x : ℕ} → x ≤ largest * largest → length (decimal x) ≤ 2 * digits
 square-digits {x} h = decimal-short (2 * digits) x (omega arith) (omega arith)
 
+-- and the bytes of a grade whose number, where it is one, has at most e digits
+grade-digits : (e : ℕ) → 0 < e → (g : GradeAnswer) → ((x : ℕ) → g ≡ graded x → x < 10 ^ e) → length (gradeField g) ≤ e
+grade-digits e some (graded x) h = decimal-short e x some (h x refl)
+grade-digits e some allFixed h = omega arith
+
 -- so no line is too long where the grade and the distances have at most e digits
 pub top-short :
-    {n r g : ℕ} (e : ℕ) → 0 < e → n ≤ largest → r ≤ largest * largest → g < 10 ^ e → length (topLine n r g) ≤ 3 * digits + e + 3
-top-short {n} {r} {g} e some a b c =
-    omega (arith, top-length n r g, few-digits a, square-digits b, decimal-short e g some c)
+    {n r f : ℕ} (g : GradeAnswer) (e : ℕ) → 0 < e → n ≤ largest → r ≤ largest * largest → f ≤ largest →
+    ((x : ℕ) → g ≡ graded x → x < 10 ^ e) → length (topLine n r f g) ≤ topMost e
+top-short {n} {r} {f} g e some a b c h =
+    omega (arith, top-length n r f g, few-digits a, square-digits b, few-digits c, grade-digits e some g h)
 
 pub pair-short :
     {s w : ℕ} (l : ℕ) {d : ℕ} (e : ℕ) → 0 < e → s ≤ largest → w ≤ largest → d < 10 ^ e → length (pairLine s w l d) ≤ 2 * digits + e + 5

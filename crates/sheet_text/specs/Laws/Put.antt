@@ -7,7 +7,8 @@ use lib.ListN.{length, set, take, drop, length-append}
 use lib.Seq.{sets-eq, take-length, take-at}
 use Rattle.laws.specs.Overwrite.{overwritten, overwritten-none, overwritten-on, length-overwritten}
 use Rattle.sheets.specs.Decimal.{digit, decimal}
-use Rattle.sheets.specs.Line.{space, lineFeed, refusedWord, line, topLine, pairLine, aloneLine, refusalLine}
+use Rattle.repairs.specs.Grade.{GradeAnswer}
+use Rattle.sheets.specs.Line.{space, lineFeed, refusedWord, line, gradeField, topLine, pairLine, aloneLine, refusalLine}
 use Rattle.sheet_text.specs.Put.{Put}
 use Rattle.sheet_text.specs.Laws.Decimal.{decimal-digit, decimal-more, decimal-hundreds}
 
@@ -62,11 +63,16 @@ numberThen x after = decimal x ++ (after ∷ [])
 pub number-length : (x after : ℕ) → length (numberThen x after) ≡ length (decimal x) + 1
 number-length x after = length-append (decimal x) (after ∷ [])
 
+-- the grade and the end of its line
+abbrev pub gradeThen : GradeAnswer → List ℕ
+gradeThen g = gradeField g ++ (lineFeed ∷ [])
+
 -- line one
-pub put-top : {l : List ℕ} {i : ℕ} (n r g : ℕ) {a b c : List ℕ} {j k e : ℕ} → i ≤ length l
-    → Put l i (numberThen n space) a j → Put a j (numberThen r space) b k → Put b k (numberThen g lineFeed) c e → Put l i (topLine n r g) c e
+pub put-top : {l : List ℕ} {i : ℕ} (n r f : ℕ) (g : GradeAnswer) {a b c d : List ℕ} {j k m e : ℕ} → i ≤ length l
+    → Put l i (numberThen n space) a j → Put a j (numberThen r space) b k → Put b k (numberThen f space) c m → Put c m (gradeThen g) d e
+    → Put l i (topLine n r f g) d e
 unfolding topLine line
-put-top n r g h P Q R = simp append-assoc at (put-on (put-on P h Q) h R)
+put-top n r f g h P Q R S = simp append-assoc at (put-on (put-on (put-on P h Q) h R) h S)
 
 -- the line of a pair, whose numbers are s and w
 pub put-pair : {l : List ℕ} {i s w x y : ℕ} → x ≡ s → y ≡ w → {t : ℕ} (d : ℕ) {a b c e f : List ℕ} {j k m o q : ℕ} → i ≤ length l
