@@ -1,6 +1,6 @@
 #!/usr/bin/env python3
 """The counts of the first part of tests/listing_compare, from document 01's definitions over all matchings and, for
-weights and short lists, from W-201 and W-203 of document 02.
+weights, short lists and sheets without a grade, from W-201, W-203 and W-204 of document 02.
 
     tests/make_listing_counts.py            prints them, in half a minute
     tests/make_listing_counts.py --check    says whether tests/listing_compare/expected begins with them
@@ -15,7 +15,7 @@ import pathlib
 import sys
 
 sys.dont_write_bytecode = True
-from counts.book import NOBODY, Book, answer
+from counts.book import NOBODY, Book, answer, grade
 from counts.drawn import KINDS, WAYS, Drawn, permutation
 
 
@@ -47,14 +47,17 @@ class Counts(collections.Counter):
         self["stable matchings"] += 1
         self["matchings"] += 1
         self["sheets"] += 1
+        answers, ones = {}, [1] * book.n
         for s in range(book.n):
             self["searches that a mentor who is alone ends before a willing one"] += book.ends_early(m, s)
             if m[s] == NOBODY:
                 self["students alone"] += 1
                 self["refusals"] += 2  # the student with nobody, and with mentor 0
             else:
-                self["answers " + answer(*book.moved(m, s), [1] * book.n)[0]] += 1
+                answers[s] = answer(*book.moved(m, s), ones)
+                self["answers " + answers[s][0]] += 1
                 self["refusals"] += 1  # the student with the mentor after his own
+        self.sheet("sheets", book.n, answers, ones)
         eliminated = book.runs()[m]
         marks = [int(rotation in eliminated) for rotation in rotations]
         self.set(marks, before)
@@ -68,14 +71,22 @@ class Counts(collections.Counter):
         for weights in tables:
             self["weighted matchings"] += 1
             self["refusals"] += book.n - len(moved)  # each student who is alone, with mentor 0
-            grade = 0
-            for s in moved:
-                letter, total = answer(*moved[s], weights)
+            answers = {s: answer(*moved[s], weights) for s in moved}
+            for letter, total in answers.values():
                 self["weighted answers " + letter] += 1
                 self["weighted totals"] += total
-                if letter != "F":
-                    grade = max(grade, total - weights[s])
-            self["weighted grades"] += grade
+            self["weighted grades"] += grade(answers, weights) or 0
+            self.sheet("weighted sheets", book.n, answers, weights)
+
+    def sheet(self, word, n, answers, weights):
+        """A sheet by what it shows; students who are not among the answers are alone."""
+        fixed = any(letter == "F" for letter, _ in answers.values())
+        known = grade(answers, weights)
+        near = any(letter != "F" and total == 1 for letter, total in answers.values())
+        shown = [known is None and fixed, known is None and not fixed, known is not None and fixed]
+        shown += [fixed and len(answers) < n, known == 0 and near]
+        for kind, is_shown in zip(SHOWN, shown, strict=True):
+            self[f"{word} with {kind}"] += is_shown
 
     def refused(self, times=1):
         """Bytes that are no stable matching: check, repair, grade and set are refused."""
@@ -156,12 +167,14 @@ def count_drawn_short(counts):
             count_matchings(counts, book, [drawn.some_placed(n) for _ in range(3)], drawn_weights)
 
 
+SHOWN = ["no grade and a fixed pair", "no grade and no pair", "a grade and a fixed pair"]
+SHOWN += ["a fixed pair and a student without a mentor", "the grade 0 and a repair of distance 1"]
 SHORT_WORDS = ["books refused as one-sided", "books with rotations", "books with somebody alone on each side"]
 SHORT_WORDS += ["books with both", "students alone", "searches that a mentor who is alone ends before a willing one"]
 WORDS = ["books", "matchings", "stable matchings", "answers U", "answers D", "answers F"]
-WORDS += ["refusals", "rotations", "sets", "sheets"]
+WORDS += ["refusals", "rotations", "sets", "sheets"] + [f"sheets with {kind}" for kind in SHOWN]
 WORDS += ["weighted matchings", "weighted answers U", "weighted answers D", "weighted answers F"]
-WORDS += ["weighted totals", "weighted grades"]
+WORDS += ["weighted totals", "weighted grades"] + [f"weighted sheets with {kind}" for kind in SHOWN]
 
 
 def lines(counts, words):

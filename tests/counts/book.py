@@ -1,5 +1,5 @@
-"""A book and what is defined of it: by document 01 over all matchings, and for weights and short lists by W-201 and
-W-203 of document 02."""
+"""A book and what is defined of it: by document 01 over all matchings, and for weights, short lists and matchings
+without a grade by W-201, W-203 and W-204 of document 02."""
 import math
 
 NOBODY = 255
@@ -152,3 +152,10 @@ def answer(up, down, without, weights):
     least = min(total(up), total(down))
     assert least == min(total(moved) for moved in without)
     return ("U" if total(up) <= total(down) else "D"), least
+
+
+def grade(answers, weights):
+    """The largest total of a repair less the student's own weight; None where no pair can be repaired (W-204). The
+    answers are those of the students in pairs."""
+    totals = [total - weights[s] for s, (letter, total) in answers.items() if letter != "F"]
+    return max(totals, default=None)

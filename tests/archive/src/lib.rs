@@ -1,7 +1,9 @@
 //! The functions of include/placement.h as the linked archive has them, over slices. An empty slice is passed as a
-//! null pointer and length 0.
+//! null pointer and length 0. `printed` reads a sheet back.
 
-pub use reply::Reply;
+pub mod printed;
+
+pub use reply::{Reply, NO_GRADE};
 
 mod c {
     use super::Reply;

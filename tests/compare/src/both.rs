@@ -1,6 +1,6 @@
 //! Each call on both libraries, with equal inputs and equal result buffers, compared in reply and in every byte of the
 //! buffers and of the guard bytes before and after them. What the archive reports of a repair is recounted from its
-//! gains.
+//! gains. The calls for a sheet stand in `printed`.
 
 use crate::tally::{hex, Tally};
 use independent::calls;
@@ -17,7 +17,7 @@ pub struct Both {
 
 /// A result buffer of some length between guard bytes, filled at random.
 #[derive(Clone, PartialEq)]
-struct Lent(Vec<u8>);
+pub struct Lent(Vec<u8>);
 
 impl Lent {
     fn new(length: usize, random: &mut Random) -> Lent {
@@ -29,7 +29,7 @@ impl Lent {
         Lent(bytes)
     }
 
-    fn buffer(&mut self) -> &mut [u8] {
+    pub fn buffer(&mut self) -> &mut [u8] {
         let end = self.0.len() - GUARD;
         &mut self.0[GUARD..end]
     }
@@ -62,15 +62,15 @@ impl Both {
         independent
     }
 
-    /// Makes a call with a result buffer of this length on both sides.
-    fn lending(
+    /// Makes a call with a result buffer of this length on both sides: the reply and the buffer of each.
+    pub fn lending(
         &mut self,
         call: &str,
         inputs: &[&[u8]],
         length: usize,
         archive: impl Fn(&mut [u8]) -> Reply,
         independent: impl Fn(&mut [u8]) -> Reply,
-    ) -> Reply {
+    ) -> [(Reply, Lent); 2] {
         let mut one = Lent::new(length, &mut self.random);
         let mut other = one.clone();
         let (a, b) = (archive(one.buffer()), independent(other.buffer()));
@@ -82,7 +82,7 @@ impl Both {
             let (a, b) = (text(a, &mut one), text(b, &mut other));
             self.tally.differ(&call, inputs, a, b);
         }
-        b
+        [(a, one), (b, other)]
     }
 
     /// Makes a call for a repair with these weights and two result buffers of these lengths, the second for gains, on
@@ -209,10 +209,6 @@ impl Both {
         self.replies("grade", &[book, m], archive::grade(book, m), calls::grade(book, m));
     }
 
-    pub fn sheet(&mut self, input: &[u8], room: usize) {
-        self.lending("sheet", &[input], room, |out| archive::sheet(input, out), |out| calls::sheet(input, out));
-    }
-
     pub fn repair(&mut self, book: &[u8], m: &[u8], request: &[u8], room: usize, gains_room: usize) -> Reply {
         self.lending_two(
             "repair",
@@ -227,11 +223,6 @@ impl Both {
     pub fn weighted_grade(&mut self, book: &[u8], m: &[u8], weights: &[u8]) {
         let (a, b) = (archive::weighted_grade(book, m, weights), calls::weighted_grade(book, m, weights));
         self.replies("weighted_grade", &[book, m, weights], a, b);
-    }
-
-    pub fn weighted_sheet(&mut self, input: &[u8], room: usize) {
-        let archive = |out: &mut [u8]| archive::weighted_sheet(input, out);
-        self.lending("weighted_sheet", &[input], room, archive, |out| calls::weighted_sheet(input, out));
     }
 
     pub fn weighted_repair(

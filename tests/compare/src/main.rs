@@ -6,6 +6,7 @@
 
 mod both;
 mod damage;
+mod printed;
 mod short;
 mod sound;
 mod tally;

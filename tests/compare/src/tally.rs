@@ -1,14 +1,16 @@
 //! Counts of what was compared, and the report of differences.
 
 use crate::sound::Sound;
+use archive::printed::{Kind, Printed, KINDS};
 use independent::reply::Reply;
 use std::fmt::Write;
 
 /// How many differences are printed in full.
 const PRINTED: usize = 5;
 
-/// The calls whose number is recounted from the gains.
+/// The calls whose number is recounted from the gains, and the calls for a sheet.
 const REPAIRS: [&str; 2] = ["repair", "weighted_repair"];
+const SHEETS: [&str; 2] = ["sheet", "weighted_sheet"];
 
 #[derive(Default)]
 pub struct Tally {
@@ -28,6 +30,8 @@ pub struct Tally {
     pub weightless: usize,
     /// Repairs, plain and weighted, that move students who weigh more than 0 and leave others who do.
     pub mixed: [usize; 2],
+    /// Sheets of each kind, plain and weighted.
+    pub shown: [[usize; KINDS.len()]; 2],
     /// Refusals by number; at 0 the calls that were not refused.
     pub refusals: [usize; 20],
     pub differences: usize,
@@ -70,6 +74,21 @@ impl Tally {
         self.mixed[repair] += (moved > 0 && left > 0) as usize;
     }
 
+    /// Counts a sheet by its kinds.
+    pub fn count_shown(&mut self, call: &str, printed: &Printed) {
+        let sheet = SHEETS.iter().position(|&sheet| sheet == call).expect("one of these calls");
+        for kind in KINDS {
+            self.shown[sheet][kind as usize] += printed.is(kind) as usize;
+        }
+    }
+
+    /// The calls for a sheet, each with the kinds that it can be of, and how many of these there were. Without weights
+    /// a repair has distance 2 at least.
+    fn shown(&self) -> impl Iterator<Item = (&'static str, Kind, usize)> + '_ {
+        let kinds = |sheet: usize| KINDS.map(|kind| (SHEETS[sheet], kind, self.shown[sheet][kind as usize]));
+        (0..2).flat_map(kinds).filter(|&(call, kind, _)| call != SHEETS[0] || kind != Kind::GradeZero)
+    }
+
     /// Counts a difference, and prints it if it is one of the first.
     pub fn differ(&mut self, call: &str, inputs: &[&[u8]], archive: String, due: String) {
         self.differences += 1;
@@ -95,7 +114,10 @@ impl Tally {
         let weightless = (self.weightless == 0).then(|| "repair of weight 0".to_string());
         let mixed = REPAIRS.iter().zip(self.mixed).filter(|(_, times)| *times == 0);
         let mixed = mixed.map(|(call, _)| format!("{call} that moves students and leaves others"));
-        refusals.chain(letters).chain(large).chain(short).chain(turned).chain(weightless).chain(mixed).collect()
+        let shown = self.shown().filter(|&(_, _, times)| times == 0);
+        let shown = shown.map(|(call, kind, _)| format!("{call} with {}", kind.words()));
+        let books = large.chain(short);
+        refusals.chain(letters).chain(books).chain(turned).chain(weightless).chain(mixed).chain(shown).collect()
     }
 
     pub fn print(&self) {
@@ -107,6 +129,7 @@ impl Tally {
         println!("weights: {turned_up} D to U, {turned_down} U to D, {} totals of 0", self.weightless);
         let [plain, weighted] = self.mixed;
         println!("repairs that move students and leave others: plain {plain}, weighted {weighted}");
+        self.shown().for_each(|(call, kind, times)| println!("{call} with {}: {times}", kind.words()));
         let mut line = String::from("refused");
         for (number, times) in self.refusals.iter().enumerate().skip(1) {
             write!(line, " {number}: {times}").expect("a string takes everything");

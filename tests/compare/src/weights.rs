@@ -5,7 +5,8 @@ use crate::sound::Sound;
 use independent::random::Random;
 use independent::reply::Reply;
 
-/// A weight for each of n students: all bytes, only 0 and 1, only 0 to 2, all 0, all 1, all 255, or one heavy student.
+/// A weight for each of n students: all bytes, only 0 and 1, only 0 to 2, all 0, all 1, all 255, one heavy student
+/// among others of weight 1, or one of weight 1 among others of weight 0.
 pub fn any(n: usize, random: &mut Random) -> Vec<u8> {
     let heavy = random.below(n.max(1));
     let kind = random.below(8);
@@ -16,6 +17,7 @@ pub fn any(n: usize, random: &mut Random) -> Vec<u8> {
         3 => 1,
         4 => 255,
         5 => [1, 255][(i == heavy) as usize],
+        6 => (i == heavy) as u8,
         _ => random.byte(),
     };
     (0..n).map(weight).collect()

@@ -7,7 +7,7 @@ use crate::instance;
 use crate::matching::{self, ALONE};
 use crate::poset::Poset;
 use crate::repair::{self, Answer, Repairs};
-use crate::reply::{reply, rule, Checked, Reply};
+use crate::reply::{reply, rule, Checked, Reply, NO_GRADE};
 use crate::sheet;
 use crate::weights::{self, Weights};
 
@@ -121,7 +121,8 @@ pub fn weighted_grade(book: &[u8], matching: &[u8], weights: &[u8]) -> Reply {
         let instance = instance::read(book)?;
         let matching = matching::stable(&instance, matching)?;
         let weights = Weights::read(instance.n, weights)?;
-        Ok(repair::all(&instance, &Poset::of(&instance), &matching, &weights).1)
+        let all = repair::all(&instance, &Poset::of(&instance), &matching, &weights);
+        Ok(all.grade.unwrap_or(NO_GRADE))
     })
 }
 

@@ -1,4 +1,4 @@
-//! A second implementation of document 01 (stable placements and their repairs) with W-201 to W-203 of document 02,
+//! A second implementation of document 01 (stable placements and their repairs) with W-201 to W-204 of document 02,
 //! made to be compared with the verified library. It goes by another route: the rotation poset of Gusfield and Irving
 //! (1989), and the repairs of document 000, section 3. Students are called men and mentors women, as in those
 //! sources.
@@ -11,7 +11,8 @@
 //! - `numbering`: the rotations in the order of document 01's numbers
 //! - `poset`: precedence, closed subsets
 //! - `weights`: rule 17, the total weight of a set of men
-//! - `repair`: repairs of one pair or of all pairs of a matching, grade; plain ones are those with weights of 1
+//! - `repair`: repairs of one pair or of all pairs of a matching, number of fixed pairs, grade; plain ones are those
+//!   with weights of 1
 //! - `sheet`: the printed sheet, plain and weighted
 //! - `calls`: the functions of include/placement.h over slices
 //! - `reply`, `groups`, `bits`: the form of the answers, a form of storage, sets as numbers

@@ -10,7 +10,7 @@
 
 use crate::bits::transposed;
 use crate::instance::Instance;
-use crate::matching::{Matching, Partners};
+use crate::matching::{Matching, Partners, ALONE};
 use crate::poset::{self, Poset};
 use crate::weights::Weights;
 
@@ -149,12 +149,25 @@ impl<'a> Repairs<'a> {
     }
 }
 
-/// The answers for all men, and the grade: the largest total of a repair, less the asking man's weight, or 0 if all
-/// pairs are fixed. A man who is alone is in no rotation; his answer has no meaning and does not count.
-pub fn all(instance: &Instance, poset: &Poset, matching: &Matching, weights: &Weights) -> (Vec<Answer>, usize) {
+/// What is answered of all pairs of a matching.
+pub struct All {
+    /// The answer for each man's pair; none for a man who is alone.
+    pub answers: Vec<Option<Answer>>,
+    /// How many pairs are fixed.
+    pub fixed: usize,
+    /// The largest total of a repair, less the asking man's weight; none where no pair can be repaired.
+    pub grade: Option<usize>,
+}
+
+/// The answers for all pairs of a matching, the number of those that are fixed, and the grade.
+pub fn all(instance: &Instance, poset: &Poset, matching: &Matching, weights: &Weights) -> All {
     let repairs = Repairs::of(instance, poset, matching, u64::MAX);
-    let answers: Vec<Answer> = (0..instance.n as u8).map(|m| repairs.answer(m, weights)).collect();
-    let repaired = answers.iter().enumerate().filter(|(_, &answer)| answer != Answer::Fixed);
-    let grade = repaired.map(|(m, answer)| answer.total() - weights.total(1 << m)).max().unwrap_or(0);
-    (answers, grade)
+    let paired = |m: u8| matching.woman[m as usize] != ALONE;
+    let answer = |m| repairs.answer(m, weights);
+    let answers: Vec<Option<Answer>> = (0..instance.n as u8).map(|m| paired(m).then(|| answer(m))).collect();
+    let fixed = answers.iter().filter(|&&answer| answer == Some(Answer::Fixed)).count();
+    let pairs = answers.iter().enumerate().filter_map(|(m, answer)| Some((m, answer.as_ref()?)));
+    let repaired = pairs.filter(|(_, &answer)| answer != Answer::Fixed);
+    let grade = repaired.map(|(m, answer)| answer.total() - weights.total(1 << m)).max();
+    All { answers, fixed, grade }
 }

@@ -1,6 +1,6 @@
 //! Answers: a refusal, and the reply of include/placement.h.
 
-pub use ::reply::Reply;
+pub use ::reply::{Reply, NO_GRADE};
 
 /// A broken rule of document 01's table: its number, its place, and for rule 10 the second place.
 #[derive(Clone, Copy, Debug, PartialEq, Eq)]

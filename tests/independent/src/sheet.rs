@@ -1,9 +1,9 @@
-//! The sheet: n, rotations, grade; then a line for each man. A refusal is printed by its number. The plain sheet is the
-//! weighted one with weights of 1.
+//! The sheet: n, rotations, fixed pairs, grade; then a line for each man. A refusal is printed by its number. The plain
+//! sheet is the weighted one with weights of 1.
 
 use crate::book;
 use crate::instance;
-use crate::matching::{self, ALONE};
+use crate::matching;
 use crate::poset::Poset;
 use crate::repair;
 use crate::reply::Checked;
@@ -17,10 +17,16 @@ pub fn text(input: &[u8]) -> Vec<u8> {
 
 /// The text of the weighted sheet of a book with a matching of n bytes and then weights after it.
 pub fn weighted_text(input: &[u8]) -> Vec<u8> {
+    let (book, matching, weights) = weighted_parts(input);
+    printed(book, matching, weights)
+}
+
+/// The book, the matching and the weights of a weighted sheet's input.
+pub fn weighted_parts(input: &[u8]) -> (&[u8], &[u8], &[u8]) {
     let (book, rest) = book::and_rest(input);
     let n = book.get(1).map_or(0, |&n| n as usize);
     let (matching, weights) = rest.split_at(n.min(rest.len()));
-    printed(book, matching, weights)
+    (book, matching, weights)
 }
 
 /// The sheet, or the line of the refusal.
@@ -40,16 +46,20 @@ fn write(book: &[u8], given: &[u8], weights: &[u8], sheet: &mut Vec<u8>) -> Chec
     let matching = matching::stable(&instance, given)?;
     let weights = Weights::read(instance.n, weights)?;
     let poset = Poset::of(&instance);
-    let (answers, grade) = repair::all(&instance, &poset, &matching, &weights);
+    let all = repair::all(&instance, &poset, &matching, &weights);
     number(sheet, instance.n, b' ');
     number(sheet, poset.count(), b' ');
-    number(sheet, grade, b'\n');
-    for (man, answer) in answers.iter().enumerate() {
+    number(sheet, all.fixed, b' ');
+    match all.grade {
+        Some(grade) => number(sheet, grade, b'\n'),
+        None => sheet.extend_from_slice(b"-\n"),
+    }
+    for (man, answer) in all.answers.iter().enumerate() {
         number(sheet, man, b' ');
-        if given[man] == ALONE {
+        let Some(answer) = answer else {
             sheet.extend_from_slice(b"- N 0\n");
             continue;
-        }
+        };
         number(sheet, given[man] as usize, b' ');
         sheet.push(answer.letter());
         sheet.push(b' ');

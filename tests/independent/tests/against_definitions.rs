@@ -8,7 +8,7 @@ use definitions::known::{every_book, every_short_book, Known};
 use definitions::rotations::{closed, matching_of};
 use definitions::{bytes, distance, Matching};
 use independent::random::Random;
-use independent::reply::Reply;
+use independent::reply::{Reply, NO_GRADE};
 use independent::{calls, samples, short_samples};
 
 impl Known {
@@ -117,7 +117,7 @@ impl Known {
             assert_eq!(gains, (0..n).map(gain).collect::<Vec<_>>());
         }
         let grade = self.market.grade(&self.stable, given, &ones);
-        assert_eq!(calls::grade(&self.book, &bytes(given)), Reply::value(grade));
+        assert_eq!(calls::grade(&self.book, &bytes(given)), Reply::value(grade.unwrap_or(NO_GRADE)));
         let input = [&self.book[..], &bytes(given)].concat();
         let sheet = self.market.sheet(&self.stable, self.rotations.len(), given, &ones);
         assert_eq!(String::from_utf8(independent::sheet::text(&input)).unwrap(), sheet);

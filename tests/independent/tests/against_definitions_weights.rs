@@ -6,7 +6,7 @@ mod definitions;
 use definitions::known::{every_book, every_short_book, Known};
 use definitions::{bytes, weight_moved, Matching};
 use independent::random::Random;
-use independent::reply::Reply;
+use independent::reply::{Reply, NO_GRADE};
 use independent::{calls, samples, short_samples};
 
 /// Answers that were met, by letter: all of them, those of another letter than the plain one, those of total 0.
@@ -33,7 +33,7 @@ impl Known {
             self.test_repair(given, weights, man, met);
         }
         let given_bytes = bytes(given);
-        let grade = self.market.grade(&self.stable, given, weights);
+        let grade = self.market.grade(&self.stable, given, weights).unwrap_or(NO_GRADE);
         assert_eq!(calls::weighted_grade(&self.book, &given_bytes, weights), Reply::value(grade));
         let due = self.market.sheet(&self.stable, self.rotations.len(), given, weights);
         let input = [&self.book[..], &given_bytes, weights].concat();

@@ -1,11 +1,12 @@
-//! The cases of document 01 that are checked by hand, and Tables 1 to 3 of document 000.
+//! The cases of document 01 that are checked by hand, their first lines as W-204 gives them, and Tables 1 to 3 of
+//! document 000.
 
 mod definitions;
 
 use definitions::{Market, Matching};
 use independent::instance;
 use independent::poset::Poset;
-use independent::reply::Reply;
+use independent::reply::{Reply, NO_GRADE};
 use independent::{book, calls, samples, sheet, short_samples};
 
 const MATCHING_5: [u8; 7] = [4, 5, 6, 3, 1, 2, 0];
@@ -28,15 +29,18 @@ fn refused(number: usize, place: usize) -> Reply {
 
 #[test]
 fn empty_and_single() {
-    assert_eq!(sheet_of(&[1, 0], &[]), "0 0 0\n");
-    assert_eq!(sheet_of(&samples::book(1, &[0, 0]), &[0]), "1 0 0\n0 0 F 0\n");
+    assert_eq!(sheet_of(&[1, 0], &[]), "0 0 0 -\n");
+    assert_eq!(calls::grade(&[1, 0], &[]), Reply::value(NO_GRADE));
+    let one = samples::book(1, &[0, 0]);
+    assert_eq!(sheet_of(&one, &[0]), "1 0 1 -\n0 0 F 0\n");
+    assert_eq!(calls::grade(&one, &[0]), Reply::value(NO_GRADE));
 }
 
 #[test]
 fn two_by_two() {
     let book = samples::book(2, &[0, 1, 1, 0, 1, 0, 0, 1]);
-    assert_eq!(sheet_of(&book, &[0, 1]), "2 1 1\n0 0 D 2\n1 1 D 2\n");
-    assert_eq!(sheet_of(&book, &[1, 0]), "2 1 1\n0 1 U 2\n1 0 U 2\n");
+    assert_eq!(sheet_of(&book, &[0, 1]), "2 1 0 1\n0 0 D 2\n1 1 D 2\n");
+    assert_eq!(sheet_of(&book, &[1, 0]), "2 1 0 1\n0 1 U 2\n1 0 U 2\n");
 }
 
 #[test]
@@ -44,7 +48,7 @@ fn refused_10() {
     let book = samples::book(2, &[0, 1, 0, 1, 0, 1, 0, 1]);
     assert_eq!(calls::check_matching(&book, &[1, 0]), refused(10, 0));
     assert_eq!(sheet_of(&book, &[1, 0]), "refused 10\n");
-    assert_eq!(sheet_of(&book, &[0, 1]), "2 0 0\n0 0 F 0\n1 1 F 0\n");
+    assert_eq!(sheet_of(&book, &[0, 1]), "2 0 2 -\n0 0 F 0\n1 1 F 0\n");
 }
 
 #[test]
@@ -124,7 +128,7 @@ fn tables_2_and_3() {
 
 #[test]
 fn table_1_sheet() {
-    let due = "7 6 3\n0 4 U 2\n1 5 U 4\n2 6 D 2\n3 3 D 4\n4 1 D 2\n5 2 U 2\n6 0 D 2\n";
+    let due = "7 6 0 3\n0 4 U 2\n1 5 U 4\n2 6 D 2\n3 3 D 4\n4 1 D 2\n5 2 U 2\n6 0 D 2\n";
     assert_eq!(sheet_of(&table_1(), &MATCHING_5), due);
     assert_eq!(calls::grade(&table_1(), &MATCHING_5), Reply::value(3));
 }

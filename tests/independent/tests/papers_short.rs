@@ -7,7 +7,7 @@
 //! students; but student 1 prefers mentor 2, who is alone, to mentor 0, and these two block it. Mentor 2 stands before
 //! mentor 0 on student 1's list and ends his search for a next mentor.
 
-use independent::reply::Reply;
+use independent::reply::{Reply, NO_GRADE};
 use independent::{calls, sheet, short_samples};
 
 const LISTS: [&[u8]; 6] = [&[0, 1], &[1, 2, 0], &[0], &[1, 0, 2], &[0, 1], &[1]];
@@ -15,7 +15,7 @@ const LISTS: [&[u8]; 6] = [&[0, 1], &[1, 2, 0], &[0], &[1, 0, 2], &[0, 1], &[1]]
 /// The same with mentor 2 at the end of student 1's list: she no longer ends his search before mentor 0.
 const OTHER_LISTS: [&[u8]; 6] = [&[0, 1], &[1, 0, 2], &[0], &[1, 0, 2], &[0, 1], &[1]];
 
-fn book(lists: [&[u8]; 6]) -> Vec<u8> {
+fn book<const LISTS: usize>(lists: [&[u8]; LISTS]) -> Vec<u8> {
     short_samples::book(&lists.map(<[u8]>::to_vec))
 }
 
@@ -51,7 +51,7 @@ fn a_mentor_who_is_alone_ends_the_search() {
     }
     assert_eq!(calls::rotation_count(&book(LISTS)), Reply::value(0));
     assert_eq!(calls::check_matching(&book(LISTS), &[1, 0, 255]), refused(10, 1, 2));
-    assert_eq!(sheet_of(&book(LISTS), &[0, 1, 255]), "3 0 0\n0 0 F 0\n1 1 F 0\n2 - N 0\n");
+    assert_eq!(sheet_of(&book(LISTS), &[0, 1, 255]), "3 0 2 -\n0 0 F 0\n1 1 F 0\n2 - N 0\n");
 }
 
 /// With mentor 2 last there is one rotation, of students 0 and 1. Student 2 counts neither in the grade nor as fixed.
@@ -63,14 +63,31 @@ fn one_rotation_beside_those_who_are_alone() {
     assert_eq!(out, [2, 0, 0, 1, 1]);
     assert_eq!(calls::mentor_best(&book, &mut out), Reply::value(3));
     assert_eq!(out[..3], [1, 0, 255]);
-    assert_eq!(sheet_of(&book, &[0, 1, 255]), "3 1 1\n0 0 D 2\n1 1 D 2\n2 - N 0\n");
-    assert_eq!(sheet_of(&book, &[1, 0, 255]), "3 1 1\n0 1 U 2\n1 0 U 2\n2 - N 0\n");
+    assert_eq!(sheet_of(&book, &[0, 1, 255]), "3 1 0 1\n0 0 D 2\n1 1 D 2\n2 - N 0\n");
+    assert_eq!(sheet_of(&book, &[1, 0, 255]), "3 1 0 1\n0 1 U 2\n1 0 U 2\n2 - N 0\n");
     let mut gains = [99; 3];
     let reply = calls::repair(&book, &[0, 1, 255], &[0, 0], &mut out, &mut gains);
     assert_eq!((reply.letter, reply.value), (b'D' as usize, 2));
     assert_eq!((&out[..3], gains), (&[1, 0, 255][..], [-1, -1, 0]));
     let request = |pair: [u8; 2]| calls::repair(&book, &[0, 1, 255], &pair, &mut [0; 3], &mut [0; 3]).number;
     assert_eq!([[2, 0], [2, 2], [2, 255], [0, 255], [0, 1]].map(request), [12, 12, 11, 11, 12]);
+}
+
+/// W-204: a line with N is no fixed pair. Both students list mentor 0 alone, who prefers student 0, and mentor 1 lists
+/// nobody; where all lists are empty there is no pair. Then two by two of document 01 beside a student and a mentor who
+/// list each other alone, a fixed pair, and two who list nobody: the first two pairs can be repaired.
+#[test]
+fn number_of_fixed_pairs() {
+    let graded = |lists: [&[u8]; 4], matching: &[u8]| {
+        assert_eq!(calls::grade(&book(lists), matching), Reply::value(NO_GRADE));
+        sheet_of(&book(lists), matching)
+    };
+    assert_eq!(graded([&[0], &[0], &[0, 1], &[]], &[0, 255]), "2 0 1 -\n0 0 F 0\n1 - N 0\n");
+    assert_eq!(graded([&[]; 4], &[255, 255]), "2 0 0 -\n0 - N 0\n1 - N 0\n");
+    let book = book([&[0, 1], &[1, 0], &[2], &[], &[1, 0], &[0, 1], &[2], &[]]);
+    let lines = "0 0 D 2\n1 1 D 2\n2 2 F 0\n3 - N 0\n";
+    assert_eq!(sheet_of(&book, &[0, 1, 2, 255]), format!("4 1 1 1\n{lines}"));
+    assert_eq!(calls::grade(&book, &[0, 1, 2, 255]), Reply::value(1));
 }
 
 /// 8, 9, 19, 10 in their order; 255 does not clash with 255.
@@ -127,7 +144,7 @@ fn damaged_directories() {
 /// In a sheet's input the matching begins where the last list ends; the bytes of the directory are the book's always.
 #[test]
 fn inputs_of_sheets() {
-    let (book, due) = (book(LISTS), "3 0 0\n0 0 F 0\n1 1 F 0\n2 - N 0\n");
+    let (book, due) = (book(LISTS), "3 0 2 -\n0 0 F 0\n1 1 F 0\n2 - N 0\n");
     let input = [&book[..], &[0, 1, 255]].concat();
     assert_eq!(String::from_utf8(sheet::weighted_text(&[&input[..], &[7, 0, 1]].concat())).unwrap(), due);
     assert_eq!(sheet_of(&input, &[0]), "refused 8\n");
@@ -137,6 +154,6 @@ fn inputs_of_sheets() {
     let mut damaged = input.clone();
     damaged[22..26].fill(0);
     assert_eq!(sheet_of(&damaged, &[]), "refused 5\n");
-    assert_eq!(sheet_of(&[2, 0], &[]), "0 0 0\n");
+    assert_eq!(sheet_of(&[2, 0], &[]), "0 0 0 -\n");
     assert_eq!(sheet_of(&[2, 0], &[255]), "refused 8\n");
 }

@@ -1,4 +1,5 @@
-//! Weighted sheets of Table 1 of document 000 that are worked out by hand from its Tables 2 and 3; rule 17.
+//! Weighted sheets of Table 1 of document 000 that are worked out by hand from its Tables 2 and 3; the grade 0 and none
+//! (W-204); rule 17.
 //!
 //! The matching M5 is 4 5 6 3 1 2 0, its set {0, 1, 2}. Rotation 1 moves the men 1 6 5 (document 01); by the pairs that
 //! each produces or eliminates in Table 2, rotation 2 moves 0 5, rotation 3 0 4, rotation 4 2 6, rotation 5 1 3. Table 2
@@ -19,7 +20,7 @@
 //! - (1,5), plainly U, is D where w0 + w5 > w2 + w3;
 //! - (6,0), plainly D, is U where w0 + w1 + w5 <= w2.
 
-use independent::reply::Reply;
+use independent::reply::{Reply, NO_GRADE};
 use independent::{calls, samples, sheet};
 
 const MATCHING_5: [u8; 7] = [4, 5, 6, 3, 1, 2, 0];
@@ -39,7 +40,7 @@ fn sheet_of(book: &[u8], matching: &[u8], weights: &[u8]) -> String {
 /// The sheet of M5 with these weights has this grade and, for each man, this letter and total.
 fn answers(weights: [u8; 7], grade: usize, due: [&str; 7]) {
     let lines: String = due.iter().enumerate().map(|(m, end)| format!("{m} {} {end}\n", MATCHING_5[m])).collect();
-    assert_eq!(sheet_of(&table_1(), &MATCHING_5, &weights), format!("7 6 {grade}\n{lines}"));
+    assert_eq!(sheet_of(&table_1(), &MATCHING_5, &weights), format!("7 6 0 {grade}\n{lines}"));
     assert_eq!(calls::weighted_grade(&table_1(), &MATCHING_5, &weights), Reply::value(grade));
     for man in 0..7u8 {
         let (letter, total) = due[man as usize].split_once(' ').unwrap();
@@ -94,10 +95,36 @@ fn all_equal() {
 #[test]
 fn small() {
     let (one, two) = (samples::book(1, &[0, 0]), samples::book(2, &[0, 1, 1, 0, 1, 0, 0, 1]));
-    assert_eq!(sheet_of(&[1, 0], &[], &[]), "0 0 0\n");
-    assert_eq!(sheet_of(&one, &[0], &[255]), "1 0 0\n0 0 F 0\n");
-    assert_eq!(sheet_of(&two, &[0, 1], &[7, 30]), "2 1 30\n0 0 D 37\n1 1 D 37\n");
-    assert_eq!(sheet_of(&two, &[1, 0], &[0, 30]), "2 1 30\n0 1 U 30\n1 0 U 30\n");
+    assert_eq!(sheet_of(&[1, 0], &[], &[]), "0 0 0 -\n");
+    assert_eq!(calls::weighted_grade(&[1, 0], &[], &[]), Reply::value(NO_GRADE));
+    for weight in [0, 1, 255] {
+        assert_eq!(sheet_of(&one, &[0], &[weight]), "1 0 1 -\n0 0 F 0\n");
+        assert_eq!(calls::weighted_grade(&one, &[0], &[weight]), Reply::value(NO_GRADE));
+    }
+    assert_eq!(sheet_of(&two, &[0, 1], &[7, 30]), "2 1 0 30\n0 0 D 37\n1 1 D 37\n");
+    assert_eq!(sheet_of(&two, &[1, 0], &[0, 30]), "2 1 0 30\n0 1 U 30\n1 0 U 30\n");
+}
+
+/// The grade 0, though one repair has distance 1: only the asking man weighs anything. The stable matchings are 0 1 2,
+/// 0 2 1 and 1 2 0; man 0 blocks 1 0 2 and 2 0 1 with woman 0, and 2 1 0 with woman 1.
+/// - Of 0 1 2: only 1 2 0 is without (0,0). It moves all, total 1, and less the weight of man 0 that is 0.
+///   (1,1) and (2,2) are repaired by 0 2 1, which moves men 1 and 2: total 0.
+/// - Of 0 2 1: only 1 2 0 is without (0,0). It moves men 0 and 2, total 1, and less the weight of man 0 that is 0.
+///   (1,2) and (2,1) are repaired by 0 1 2, which moves men 1 and 2: total 0.
+///
+/// Two men cannot have it: the only other matching moves both. They weigh 1 and 0, and for the latter 1 is left. Of the
+/// books of edition 1 with three men this is the first by its bytes.
+#[test]
+fn the_grade_0_beside_a_repair_of_distance_1() {
+    let book = samples::book(3, &samples::digits(&["012", "012", "210", "201", "021", "012"]));
+    for matching in [[1, 0, 2], [2, 0, 1], [2, 1, 0]] {
+        assert_eq!(calls::check_matching(&book, &matching).number, 10);
+    }
+    assert_eq!(sheet_of(&book, &[0, 1, 2], &[1, 0, 0]), "3 2 0 0\n0 0 D 1\n1 1 D 0\n2 2 D 0\n");
+    assert_eq!(sheet_of(&book, &[0, 2, 1], &[1, 0, 0]), "3 2 0 0\n0 0 D 1\n1 2 U 0\n2 1 U 0\n");
+    for matching in [[0, 1, 2], [0, 2, 1]] {
+        assert_eq!(calls::weighted_grade(&book, &matching, &[1, 0, 0]), Reply::value(0));
+    }
 }
 
 /// Rule 17: after 8, 9 and 10, before 13.

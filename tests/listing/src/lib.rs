@@ -4,7 +4,7 @@
 //! go up to 64.
 //!
 //! Document 01's students are men here and its mentors women, as in its source. Quotation marks hold its sentences,
-//! and on weights and short lists those of document 02's W-201 and W-203.
+//! and on weights, short lists and the first line of the sheet those of document 02's W-201, W-203 and W-204.
 //!
 //! - `people`: a man's number and a woman's
 //! - `reply`: what a call answers, refusals
@@ -15,7 +15,7 @@
 //! - `rotation`: next mentor, exposed rotations, elimination, numbers
 //! - `runs`: runs of eliminations, precedence, closed sets and their matchings
 //! - `weights`: rule 17, the total weight of the men whom a matching moves
-//! - `repair`: fixed pairs, repairs up and down, the answer, the grade
+//! - `repair`: fixed pairs and their number, repairs up and down, the answer, the grade
 //! - `sheet`: the printed sheet, plain and weighted
 //! - `asked`, `repair_calls`: the calls of include/placement.h
 

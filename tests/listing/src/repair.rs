@@ -91,12 +91,17 @@ impl Listing {
         Man::all(self.lists.n()).map(gain).collect()
     }
 
-    /// "Each pair's total is reduced by the asking student's own weight, and the grade is the largest of these, 0 if
-    /// all are fixed"; where every weight is 1, "the largest distance of an answer, less 1, over the pairs that are
-    /// not fixed".
-    pub fn grade(&self, given: &Matching, weights: Weights) -> usize {
+    /// The "number of fixed pairs" (W-204). A student without a mentor is in no pair.
+    pub fn fixed_count(&self, given: &Matching) -> usize {
+        given.pairs().filter(|&(man, _)| self.is_fixed(given, man)).count()
+    }
+
+    /// "Each pair's total is reduced by the asking student's own weight, and the grade is the largest of these"; where
+    /// every weight is 1, "the largest distance of an answer, less 1, over the pairs that are not fixed". None "when no
+    /// pair can be repaired": no pair is not fixed.
+    pub fn grade(&self, given: &Matching, weights: Weights) -> Option<usize> {
         let not_fixed = given.pairs().filter(|&(man, _)| !self.is_fixed(given, man));
-        not_fixed.map(|(man, _)| self.answer(given, man, weights).total() - weights.of(man)).max().unwrap_or(0)
+        not_fixed.map(|(man, _)| self.answer(given, man, weights).total() - weights.of(man)).max()
     }
 
     /// The least total weight of those whom a stable matching without the man's pair moves, or none where the pair is

@@ -6,7 +6,7 @@ use crate::asked::Asked;
 use crate::matching::Matching;
 use crate::people::{Man, Woman};
 use crate::repair::Answer;
-use crate::reply::{granted, refused, Granted, Refusal, Reply};
+use crate::reply::{refused, Granted, Refusal, Reply};
 use crate::weights::Weights;
 
 impl Asked<'_> {
@@ -67,14 +67,14 @@ impl Asked<'_> {
         Ok(man)
     }
 
-    /// The grade of a matching.
-    pub fn grade(&self, matching: &[u8]) -> Reply {
+    /// The grade of a matching, none where no pair can be repaired.
+    pub fn grade(&self, matching: &[u8]) -> Result<Option<usize>, Refusal> {
         self.weighted_grade(matching, &self.ones())
     }
 
-    /// The weighted grade of a matching.
-    pub fn weighted_grade(&self, matching: &[u8], weights: &[u8]) -> Reply {
+    /// The weighted grade of a matching, none where no pair can be repaired.
+    pub fn weighted_grade(&self, matching: &[u8], weights: &[u8]) -> Result<Option<usize>, Refusal> {
         let (given, weights) = self.weighed(matching, weights)?;
-        granted(self.listing().grade(&given, weights))
+        Ok(self.listing().grade(&given, weights))
     }
 }

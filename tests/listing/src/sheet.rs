@@ -8,7 +8,7 @@ use crate::weights::Weights;
 use std::fmt::Write;
 
 /// The book of a sheet's input and what follows: "Bytes past the book's size are the matching."
-fn parts(input: &[u8]) -> (&[u8], &[u8]) {
+pub fn parts(input: &[u8]) -> (&[u8], &[u8]) {
     match input {
         [_, n, ..] if usize::from(*n) <= book::LARGEST => {
             input.split_at(book::bytes_of_the_book(usize::from(*n), input).min(input.len()))
@@ -19,7 +19,7 @@ fn parts(input: &[u8]) -> (&[u8], &[u8]) {
 
 /// The book, the matching and the weights of a weighted sheet's input: "its weights follow the matching". The first n
 /// bytes past the book are the matching, or all where there are fewer.
-fn weighted_parts(input: &[u8]) -> (&[u8], &[u8], &[u8]) {
+pub fn weighted_parts(input: &[u8]) -> (&[u8], &[u8], &[u8]) {
     let (book, rest) = parts(input);
     let n = book.get(1).map_or(0, |&n| usize::from(n));
     let (matching, weights) = rest.split_at(n.min(rest.len()));
@@ -47,13 +47,14 @@ fn printed(asked: &Asked, matching: &[u8], weights: &[u8]) -> String {
     }
 }
 
-/// The lines: "Line one: n, rotations, grade. Then student, mentor, letter (U up, D down, F fixed) and distance, 0
-/// for F. One space parts fields; a line feed ends a line." For a student without a mentor the "line shows `-`, `N`
-/// and 0".
+/// The lines: "The first line becomes n, rotations, number of fixed pairs, grade. The grade is `-` when no pair can be
+/// repaired" (W-204). "Then student, mentor, letter (U up, D down, F fixed) and distance, 0 for F. One space parts
+/// fields; a line feed ends a line." For a student without a mentor the "line shows `-`, `N` and 0".
 fn lines(asked: &Asked, given: &Matching, weights: Weights) -> String {
     let listing = asked.listing();
     let n = listing.lists.n();
-    let mut text = format!("{n} {} {}\n", listing.rotations().len(), listing.grade(given, weights));
+    let grade = listing.grade(given, weights).map_or("-".to_string(), |grade| grade.to_string());
+    let mut text = format!("{n} {} {} {grade}\n", listing.rotations().len(), listing.fixed_count(given));
     for man in Man::all(n) {
         let line = match given.woman_of(man) {
             Some(woman) => {

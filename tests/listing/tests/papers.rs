@@ -1,5 +1,5 @@
-//! The listing against the papers: the cases of document 01 that are checked by hand, and Tables 1 to 3 of document
-//! 000. Every expected value stands in one of them.
+//! The listing against the papers: the cases of document 01 that are checked by hand, with W-204's first lines, and
+//! Tables 1 to 3 of document 000. Every expected value stands in one of them.
 
 mod books;
 
@@ -46,19 +46,21 @@ fn books_that_are_too_short_too_long_or_too_large() {
     assert_eq!(Asked::new(&book).check_book(), refused(3, 1));
 }
 
-/// The cases n = 0 and n = 1.
+/// The cases n = 0 and n = 1, in which no pair can be repaired.
 #[test]
 fn nobody_and_one_pair() {
-    assert_eq!(sheet_of(&book_of(0, ""), &[]), "0 0 0\n");
-    assert_eq!(sheet_of(&book_of(1, "0 0"), &[0]), "1 0 0\n0 0 F 0\n");
+    assert_eq!(sheet_of(&book_of(0, ""), &[]), "0 0 0 -\n");
+    assert_eq!(Asked::new(&book_of(0, "")).grade(&[]), Ok(None));
+    assert_eq!(sheet_of(&book_of(1, "0 0"), &[0]), "1 0 1 -\n0 0 F 0\n");
+    assert_eq!(Asked::new(&book_of(1, "0 0")).grade(&[0]), Ok(None));
 }
 
 /// "Two by two: students 0 1 and 1 0, mentors 1 0 and 0 1."
 #[test]
 fn two_by_two() {
     let book = book_of(2, "01 10 10 01");
-    assert_eq!(sheet_of(&book, &[0, 1]), "2 1 1\n0 0 D 2\n1 1 D 2\n");
-    assert_eq!(sheet_of(&book, &[1, 0]), "2 1 1\n0 1 U 2\n1 0 U 2\n");
+    assert_eq!(sheet_of(&book, &[0, 1]), "2 1 0 1\n0 0 D 2\n1 1 D 2\n");
+    assert_eq!(sheet_of(&book, &[1, 0]), "2 1 0 1\n0 1 U 2\n1 0 U 2\n");
 }
 
 /// "students 0 1 and 0 1, mentors 0 1 and 0 1, matching 1 0: refused 10, student 0, mentor 0".
@@ -168,12 +170,13 @@ fn tables_2_and_3_repairs_of_each_pair() {
     }
 }
 
-/// The sheet that stands in the section "The sheet", and the grade of "a (1,3)-supermatch".
+/// The sheet that stands in the section "The sheet", which "now begins `7 6 0 3`", and the grade of "a
+/// (1,3)-supermatch".
 #[test]
 fn table_1_sheet() {
-    let due = "7 6 3\n0 4 U 2\n1 5 U 4\n2 6 D 2\n3 3 D 4\n4 1 D 2\n5 2 U 2\n6 0 D 2\n";
+    let due = "7 6 0 3\n0 4 U 2\n1 5 U 4\n2 6 D 2\n3 3 D 4\n4 1 D 2\n5 2 U 2\n6 0 D 2\n";
     assert_eq!(sheet_of(table_1(), &MATCHING_5), due);
-    assert_eq!(Asked::new(table_1()).grade(&MATCHING_5), granted(3));
+    assert_eq!(Asked::new(table_1()).grade(&MATCHING_5), Ok(Some(3)));
 }
 
 /// The repair up of man 0 is the set 0, 1 (Table 2), without rotation 2, which gave 4 to man 0 and 2 to man 5; by their

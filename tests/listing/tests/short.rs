@@ -1,4 +1,5 @@
-//! Short lists (document 02, W-203): books written out, and answers that are worked out by hand.
+//! Short lists (document 02, W-203): books written out, and answers that are worked out by hand. Where no pair can be
+//! repaired there is no grade (W-204).
 
 mod books;
 
@@ -85,7 +86,7 @@ fn one_alone_on_each_side() {
     let all: Vec<Vec<u8>> = asked.listing().stable().iter().map(|x| x.bytes()).collect();
     assert_eq!(all, [[255, 0, 1]]);
     assert!(asked.listing().same_are_placed());
-    assert_eq!(sheet_of(&book, &[255, 0, 1]), "3 0 0\n0 - N 0\n1 0 F 0\n2 1 F 0\n");
+    assert_eq!(sheet_of(&book, &[255, 0, 1]), "3 0 2 -\n0 - N 0\n1 0 F 0\n2 1 F 0\n");
 }
 
 /// "A pair blocks if each lists the other and each is alone or prefers the other": student, mentor, both or neither of
@@ -123,8 +124,8 @@ fn rules_on_matchings() {
 fn a_rotation_beside_those_who_are_alone() {
     let book = short_book_of(TWO_BY_TWO_AND_ONE);
     let asked = Asked::new(&book);
-    assert_eq!(sheet_of(&book, &[0, 1, 255]), "3 1 1\n0 0 D 2\n1 1 D 2\n2 - N 0\n");
-    assert_eq!(sheet_of(&book, &[1, 0, 255]), "3 1 1\n0 1 U 2\n1 0 U 2\n2 - N 0\n");
+    assert_eq!(sheet_of(&book, &[0, 1, 255]), "3 1 0 1\n0 0 D 2\n1 1 D 2\n2 - N 0\n");
+    assert_eq!(sheet_of(&book, &[1, 0, 255]), "3 1 0 1\n0 1 U 2\n1 0 U 2\n2 - N 0\n");
     let mut out = [9; 5];
     assert_eq!(asked.rotations(&mut out), granted(1));
     assert_eq!(out, [2, 0, 0, 1, 1]);
@@ -159,6 +160,30 @@ fn requests() {
     assert_eq!([repair(&[2, 255]), repair(&[0, 255])], [refused(11, 0), refused(11, 0)]);
 }
 
+/// W-204: a student without a mentor has a line with N and is no fixed pair. Both students list mentor 0 alone, who
+/// prefers student 0, and mentor 1 lists nobody; where all lists are empty there is no pair at all.
+#[test]
+fn no_pair_can_be_repaired() {
+    for (lists, matching, due) in
+        [("0 0 01 -", [0, 255], "2 0 1 -\n0 0 F 0\n1 - N 0\n"), ("- - - -", [255, 255], "2 0 0 -\n0 - N 0\n1 - N 0\n")]
+    {
+        let book = short_book_of(lists);
+        assert_eq!(sheet_of(&book, &matching), due);
+        assert_eq!(Asked::new(&book).grade(&matching), Ok(None));
+        assert_eq!(Asked::new(&book).weighted_grade(&matching, &[0, 7]), Ok(None));
+    }
+}
+
+/// Two by two of document 01 beside two who list each other alone, a fixed pair, and two who list nobody: the first two
+/// pairs can be repaired.
+#[test]
+fn a_fixed_pair_beside_a_grade() {
+    let book = short_book_of("01 10 2 - 10 01 2 -");
+    let lines = "0 0 D 2\n1 1 D 2\n2 2 F 0\n3 - N 0\n";
+    assert_eq!(sheet_of(&book, &[0, 1, 2, 255]), format!("4 1 1 1\n{lines}"));
+    assert_eq!(Asked::new(&book).grade(&[0, 1, 2, 255]), Ok(Some(1)));
+}
+
 /// The weights follow the matching; that of a student without a mentor counts nowhere.
 #[test]
 fn weights() {
@@ -169,7 +194,7 @@ fn weights() {
         let length = weighted_sheet(&input, &mut out).expect("a long buffer").value;
         String::from_utf8(out[..length].to_vec()).expect("text")
     };
-    assert_eq!(sheet(&[3, 4, 250]), "3 1 4\n0 0 D 7\n1 1 D 7\n2 - N 0\n");
+    assert_eq!(sheet(&[3, 4, 250]), "3 1 0 4\n0 0 D 7\n1 1 D 7\n2 - N 0\n");
     assert_eq!(sheet(&[3, 4]), "refused 17\n");
 }
 
@@ -181,14 +206,14 @@ fn inputs_of_sheets() {
         let due = match length {
             0..40 => "refused 1\n",
             40..43 => "refused 8\n",
-            _ => "3 0 0\n0 - N 0\n1 0 F 0\n2 1 F 0\n",
+            _ => "3 0 2 -\n0 - N 0\n1 0 F 0\n2 1 F 0\n",
         };
         assert_eq!(sheet_of(&input[..length], &[]), due, "{length} bytes");
     }
     let mut damaged = input;
     damaged[22] = 0;
     assert_eq!(sheet_of(&damaged, &[]), "refused 5\n");
-    assert_eq!(sheet_of(&[2, 0], &[]), "0 0 0\n");
+    assert_eq!(sheet_of(&[2, 0], &[]), "0 0 0 -\n");
     assert_eq!(sheet_of(&[2, 1], &[]), "refused 1\n");
-    assert_eq!(sheet_of(&short_book_of("- -"), &[255]), "1 0 0\n0 - N 0\n");
+    assert_eq!(sheet_of(&short_book_of("- -"), &[255]), "1 0 0 -\n0 - N 0\n");
 }

@@ -1,12 +1,13 @@
 //! The weighted answers (document 02, W-201) against the papers. The expected values are worked out by hand from
-//! Tables 2 and 3 of document 000 and from the cases of document 01 that are checked by hand.
+//! Tables 2 and 3 of document 000 and from the cases of document 01 that are checked by hand. "The grade is `-` when no
+//! pair can be repaired, in weighted sheets too" (W-204).
 
 mod books;
 
 use books::{book_of, matching_5, sheet_of, table_1, MATCHING_5};
 use listing::asked::{weighted_sheet, write_book, Asked};
 use listing::people::Man;
-use listing::reply::{granted, refused, Refusal, Reply};
+use listing::reply::{granted, refused, Refusal};
 use listing::weights::Weights;
 
 /// Some men by number.
@@ -61,9 +62,9 @@ fn whom_the_repairs_of_m5_move() {
 /// One U becomes D and one D becomes U. The totals less the asking man's weight are 5, 90, 50, 270, 10, 10 and 60.
 #[test]
 fn weights_turn_up_into_down_and_down_into_up() {
-    let due = "7 6 270\n0 4 D 15\n1 5 U 110\n2 6 D 250\n3 3 D 310\n4 1 D 15\n5 2 U 40\n6 0 U 110\n";
+    let due = "7 6 0 270\n0 4 D 15\n1 5 U 110\n2 6 D 250\n3 3 D 310\n4 1 D 15\n5 2 U 40\n6 0 U 110\n";
     assert_eq!(weighted_sheet_of(table_1(), &MATCHING_5, &TURNED), due);
-    assert_eq!(Asked::new(table_1()).weighted_grade(&MATCHING_5, &TURNED), granted(270));
+    assert_eq!(Asked::new(table_1()).weighted_grade(&MATCHING_5, &TURNED), Ok(Some(270)));
 }
 
 /// The two repairs that have turned. 0 and 4 exchange their women 4 and 1: from place 4 to 5 for 0, from 0 to 4 for 4.
@@ -89,14 +90,14 @@ fn up_is_taken_when_equal() {
 /// largest total, 255 less 255, nor a total less 1.
 #[test]
 fn the_grade_leaves_out_the_asking_man() {
-    let due = "7 6 200\n0 4 D 100\n1 5 U 200\n2 6 D 0\n3 3 D 255\n4 1 D 100\n5 2 U 200\n6 0 D 0\n";
+    let due = "7 6 0 200\n0 4 D 100\n1 5 U 200\n2 6 D 0\n3 3 D 255\n4 1 D 100\n5 2 U 200\n6 0 D 0\n";
     assert_eq!(weighted_sheet_of(table_1(), &MATCHING_5, &[100, 0, 0, 255, 0, 100, 0]), due);
 }
 
 /// All weigh 0: no pair is fixed, and up is taken where there is a repair up.
 #[test]
 fn weights_of_0() {
-    let due = "7 6 0\n0 4 U 0\n1 5 U 0\n2 6 D 0\n3 3 D 0\n4 1 D 0\n5 2 U 0\n6 0 U 0\n";
+    let due = "7 6 0 0\n0 4 U 0\n1 5 U 0\n2 6 D 0\n3 3 D 0\n4 1 D 0\n5 2 U 0\n6 0 U 0\n";
     assert_eq!(weighted_sheet_of(table_1(), &MATCHING_5, &[0; 7]), due);
 }
 
@@ -104,7 +105,7 @@ fn weights_of_0() {
 /// each total is the distance then.
 #[test]
 fn weights_of_1() {
-    let due = "7 6 3\n0 4 U 2\n1 5 U 4\n2 6 D 2\n3 3 D 4\n4 1 D 2\n5 2 U 2\n6 0 D 2\n";
+    let due = "7 6 0 3\n0 4 U 2\n1 5 U 4\n2 6 D 2\n3 3 D 4\n4 1 D 2\n5 2 U 2\n6 0 D 2\n";
     assert_eq!(weighted_sheet_of(table_1(), &MATCHING_5, &[1; 7]), due);
     let asked = Asked::new(table_1());
     let ones = Weights::read(7, &[1; 7]).expect("seven weights");
@@ -136,11 +137,33 @@ fn no_stable_matching_without_the_pair_weighs_less() {
 /// The small cases of document 01: a fixed pair weighs nothing, and two who are moved together weigh what they weigh.
 #[test]
 fn small_books() {
-    assert_eq!(weighted_sheet_of(&book_of(0, ""), &[], &[]), "0 0 0\n");
-    assert_eq!(weighted_sheet_of(&book_of(1, "0 0"), &[0], &[255]), "1 0 0\n0 0 F 0\n");
+    assert_eq!(weighted_sheet_of(&book_of(0, ""), &[], &[]), "0 0 0 -\n");
+    for weight in [0, 1, 255] {
+        assert_eq!(weighted_sheet_of(&book_of(1, "0 0"), &[0], &[weight]), "1 0 1 -\n0 0 F 0\n");
+        assert_eq!(Asked::new(&book_of(1, "0 0")).weighted_grade(&[0], &[weight]), Ok(None));
+    }
     let book = book_of(2, "01 10 10 01");
-    assert_eq!(weighted_sheet_of(&book, &[0, 1], &[255, 7]), "2 1 255\n0 0 D 262\n1 1 D 262\n");
-    assert_eq!(weighted_sheet_of(&book, &[1, 0], &[0, 7]), "2 1 7\n0 1 U 7\n1 0 U 7\n");
+    assert_eq!(weighted_sheet_of(&book, &[0, 1], &[255, 7]), "2 1 0 255\n0 0 D 262\n1 1 D 262\n");
+    assert_eq!(weighted_sheet_of(&book, &[1, 0], &[0, 7]), "2 1 0 7\n0 1 U 7\n1 0 U 7\n");
+}
+
+/// The grade 0, though one repair has distance 1: of 0 1 2 and of 0 2 1 only 1 2 0 is without the pair (0,0). It moves
+/// man 0, who weighs 1, and others, who weigh 0: less his own weight that is 0. The other pairs of each of the two are
+/// repaired by the other, which moves men 1 and 2: total 0.
+///
+/// A search with this listing went through all books of edition 1 for n up to 3 by n and then by their bytes, with all
+/// weights 0, 1 and 2; this is the first book that it found.
+#[test]
+fn the_grade_0_beside_a_repair_of_distance_1() {
+    let book = book_of(3, "012 012 210 201 021 012");
+    let asked = Asked::new(&book);
+    let stable: Vec<Vec<u8>> = asked.listing().stable().iter().map(|x| x.bytes()).collect();
+    assert_eq!(stable, [[0, 1, 2], [0, 2, 1], [1, 2, 0]]);
+    let due = ["3 2 0 0\n0 0 D 1\n1 1 D 0\n2 2 D 0\n", "3 2 0 0\n0 0 D 1\n1 2 U 0\n2 1 U 0\n"];
+    for (matching, due) in stable.iter().zip(due) {
+        assert_eq!(weighted_sheet_of(&book, matching, &[1, 0, 0]), due);
+        assert_eq!(asked.weighted_grade(matching, &[1, 0, 0]), Ok(Some(0)));
+    }
 }
 
 /// "17 weights, not n bytes, after 10", and before 13 to 14; its place is 0.
@@ -152,9 +175,9 @@ fn rule_17_and_its_order() {
         let (mut out, mut gains) = ([0; 1], [0; 1]);
         asked.weighted_repair(matching, weights, request, &mut out, &mut gains)
     };
-    let unstable: Reply = Err(Refusal { number: 10, place: 0, second: 0 });
-    assert_eq!(repair(&[1, 0], &[1], &[]), unstable);
-    assert_eq!(asked.weighted_grade(&[1, 0], &[1]), unstable);
+    let unstable = Refusal { number: 10, place: 0, second: 0 };
+    assert_eq!(repair(&[1, 0], &[1], &[]), Err(unstable));
+    assert_eq!(asked.weighted_grade(&[1, 0], &[1]), Err(unstable));
     for weights in [&[][..], &[1], &[1, 1, 1]] {
         assert_eq!(repair(&[0, 1], weights, &[]), refused(17, 0));
         assert_eq!(asked.weighted_grade(&[0, 1], weights), refused(17, 0));
@@ -173,7 +196,7 @@ fn parts_of_the_input() {
     for length in 156..=171 {
         let due = match length {
             156..=162 => "refused 8\n",
-            170 => "7 6 3\n0 4 U 2\n1 5 U 4\n2 6 D 2\n3 3 D 4\n4 1 D 2\n5 2 U 2\n6 0 D 2\n",
+            170 => "7 6 0 3\n0 4 U 2\n1 5 U 4\n2 6 D 2\n3 3 D 4\n4 1 D 2\n5 2 U 2\n6 0 D 2\n",
             _ => "refused 17\n",
         };
         assert_eq!(weighted_sheet_of(&whole[..length], &[], &[]), due, "{length} bytes");

@@ -1,12 +1,13 @@
 //! Each call on the archive and on the listing, with equal inputs and equal result buffers, compared in every field
 //! of the reply and in every byte of the buffers and of the guard bytes around them. What the archive reports of a
-//! repair is recounted from its gains.
+//! repair is recounted from its gains. The calls for a sheet stand in `printed`.
 
 use crate::calls::Call;
 use crate::lent::Lent;
 use crate::tally::Tally;
-use archive::Reply;
+use archive::{Reply, NO_GRADE};
 use listing::asked::{self, Asked};
+use listing::reply::{granted, Refusal};
 
 /// A reply of the listing in the form of the C interface.
 fn in_c(reply: listing::reply::Reply) -> Reply {
@@ -17,6 +18,11 @@ fn in_c(reply: listing::reply::Reply) -> Reply {
         }
         Err(r) => Reply { number: r.number, place: r.place, second: r.second, letter: 0, value: 0 },
     }
+}
+
+/// The reply of a grade call: the value is `NO_GRADE` where no pair can be repaired.
+fn grade_in_c(grade: Result<Option<usize>, Refusal>) -> listing::reply::Reply {
+    granted(grade?.unwrap_or(NO_GRADE))
 }
 
 /// Both sides, with the tally of what was compared.
@@ -43,15 +49,15 @@ impl Both {
         due
     }
 
-    /// Makes a call with a result buffer of this length on both sides; the reply that is due, and the due buffer.
-    fn lending(
+    /// Makes a call with a result buffer of this length on both sides: reply and buffer of the archive, and those due.
+    pub fn lending(
         &mut self,
         call: Call,
         inputs: &[&[u8]],
         room: usize,
         archive: impl Fn(&mut [u8]) -> Reply,
         listing: impl Fn(&mut [u8]) -> listing::reply::Reply,
-    ) -> (Reply, Vec<u8>) {
+    ) -> [(Reply, Lent<u8>); 2] {
         let (mut one, mut other) = (Lent::bytes(room), Lent::bytes(room));
         let (given, due) = (archive(one.buffer()), in_c(listing(other.buffer())));
         self.tally.count(call, due);
@@ -60,7 +66,7 @@ impl Both {
             let report = format!("\n  archive {given:?} {a:?}\n  due     {due:?} {b:?}");
             self.tally.differ(format!("{call:?} {inputs:?}, room {room}{report}"));
         }
-        (due, other.buffer().to_vec())
+        [(given, one), (due, other)]
     }
 
     /// Makes a call for a repair with these weights, and result buffers of these lengths for a matching and for gains,
@@ -120,9 +126,8 @@ impl Both {
     pub fn write_book(&mut self, n: usize, lists: &[u8], room: usize) -> Vec<u8> {
         let archive = |out: &mut [u8]| archive::write_book(n, lists, out);
         let listing = |out: &mut [u8]| asked::write_book(n, lists, out);
-        let (due, mut out) = self.lending(Call::WriteBook, &[&n.to_le_bytes(), lists], room, archive, listing);
-        out.truncate(due.value);
-        out
+        let [_, (due, mut out)] = self.lending(Call::WriteBook, &[&n.to_le_bytes(), lists], room, archive, listing);
+        out.buffer()[..due.value].to_vec()
     }
 
     /// One student's list.
@@ -168,7 +173,7 @@ impl Both {
     /// The grade of a matching.
     pub fn grade(&mut self, book: &Asked, matching: &[u8]) {
         let given = archive::grade(book.book(), matching);
-        self.replies(Call::Grade, &[book.book(), matching], given, book.grade(matching));
+        self.replies(Call::Grade, &[book.book(), matching], given, grade_in_c(book.grade(matching)));
     }
 
     /// How many rotations there are.
@@ -179,7 +184,8 @@ impl Both {
     /// The list of rotations: how many are due.
     pub fn rotations(&mut self, book: &Asked, room: usize) -> usize {
         let archive = |out: &mut [u8]| archive::rotations(book.book(), out);
-        self.lending(Call::Rotations, &[book.book()], room, archive, |out| book.rotations(out)).0.value
+        let [_, (due, _)] = self.lending(Call::Rotations, &[book.book()], room, archive, |out| book.rotations(out));
+        due.value
     }
 
     /// Whether one rotation precedes another.
@@ -200,16 +206,8 @@ impl Both {
     pub fn matching_to_set(&mut self, book: &Asked, matching: &[u8], room: usize) -> Vec<u8> {
         let archive = |out: &mut [u8]| archive::matching_to_set(book.book(), matching, out);
         let listing = |out: &mut [u8]| book.matching_to_set(matching, out);
-        let (due, mut set) = self.lending(Call::MatchingToSet, &[book.book(), matching], room, archive, listing);
-        set.truncate(due.value);
-        set
-    }
-
-    /// The sheet of a book with a matching after it.
-    pub fn sheet(&mut self, input: &[u8], room: usize) {
-        let archive = |out: &mut [u8]| archive::sheet(input, out);
-        let (due, out) = self.lending(Call::Sheet, &[input], room, archive, |out| asked::sheet(input, out));
-        self.tally.count_printed(Call::Sheet, printed_refusal(&out[..due.value]));
+        let [_, (due, mut set)] = self.lending(Call::MatchingToSet, &[book.book(), matching], room, archive, listing);
+        set.buffer()[..due.value].to_vec()
     }
 
     /// The weighted repair of a pair, with result buffers of these lengths.
@@ -232,22 +230,9 @@ impl Both {
     /// The weighted grade of a matching: the reply that is due.
     pub fn weighted_grade(&mut self, book: &Asked, matching: &[u8], weights: &[u8]) -> Reply {
         let given = archive::weighted_grade(book.book(), matching, weights);
-        let due = book.weighted_grade(matching, weights);
+        let due = grade_in_c(book.weighted_grade(matching, weights));
         self.replies(Call::WeightedGrade, &[book.book(), matching, weights], given, due)
     }
-
-    /// The weighted sheet of a book with a matching and weights after it.
-    pub fn weighted_sheet(&mut self, input: &[u8], room: usize) {
-        let archive = |out: &mut [u8]| archive::weighted_sheet(input, out);
-        let listing = |out: &mut [u8]| asked::weighted_sheet(input, out);
-        let (due, out) = self.lending(Call::WeightedSheet, &[input], room, archive, listing);
-        self.tally.count_printed(Call::WeightedSheet, printed_refusal(&out[..due.value]));
-    }
-}
-
-/// The number of the refusal that a sheet prints, if it prints one.
-fn printed_refusal(text: &[u8]) -> Option<usize> {
-    std::str::from_utf8(text).ok()?.strip_prefix("refused ")?.trim_end().parse().ok()
 }
 
 #[cfg(test)]

@@ -1,5 +1,6 @@
 //! The calls of include/placement.h, and the rules that each may be refused by.
 
+use archive::printed::{Kind, KINDS};
 use listing::book::Edition;
 
 /// The calls.
@@ -82,6 +83,17 @@ pub fn refused_by(edition: Edition) -> impl Iterator<Item = (Call, usize)> {
 pub fn prints(edition: Edition) -> impl Iterator<Item = (Call, usize)> {
     let all = PRINTS.into_iter().flat_map(|(call, rules)| rules.iter().map(move |&rule| (call, rule)));
     all.filter(move |(_, rule)| in_edition(edition, *rule))
+}
+
+/// Each call that prints a sheet, with a kind that it can be of for a book of an edition. In edition 1 nobody is alone,
+/// and without weights a repair has distance 2 at least.
+pub fn shows(edition: Edition) -> impl Iterator<Item = (Call, Kind)> {
+    let all = PRINTS.into_iter().flat_map(|(call, _)| KINDS.map(|kind| (call, kind)));
+    all.filter(move |&(call, kind)| match kind {
+        Kind::FixedAndAlone => edition == Edition::Two,
+        Kind::GradeZero => call == Call::WeightedSheet,
+        _ => true,
+    })
 }
 
 #[cfg(test)]

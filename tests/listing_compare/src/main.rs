@@ -2,8 +2,8 @@
 //! n up to 3, or 2 with short lists, and drawn ones up to n = 6 with sound questions; and, on fewer books, whatever
 //! breaks a rule. A third part holds the archive against itself, on books of both editions with the same full lists.
 //! Prints how much was compared and how often each rule was met. Exits with 1 on any difference, or where a call
-//! never gave a result or never met one of its rules, or no sheet printed a refusal that it can, or no repair moved
-//! students and left others, in each edition.
+//! never gave a result or never met one of its rules, or no sheet printed a refusal that it can or was of a kind that
+//! it can be, or no repair moved students and left others, in each edition.
 
 mod beyond;
 mod books;
@@ -18,6 +18,7 @@ mod lists;
 mod marks;
 mod numbers;
 mod print;
+mod printed;
 mod questions;
 mod requests;
 mod rooms;

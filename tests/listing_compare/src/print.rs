@@ -2,6 +2,7 @@
 
 use crate::calls::{Call, RULES};
 use crate::tally::Tally;
+use archive::printed::KINDS;
 use listing::book::Edition;
 
 /// What is counted of books of edition 2 alone.
@@ -27,6 +28,7 @@ pub fn sound(tally: &Tally) {
     println!("rotations {}", tally.rotations);
     println!("sets {}", tally.sets);
     println!("sheets {}", tally.sheets);
+    shown("sheets", Call::Sheet, tally);
     let [up, down, fixed] = tally.weighted_letters;
     println!("weighted matchings {}", tally.weighted_matchings);
     println!("weighted answers U {up}");
@@ -34,7 +36,15 @@ pub fn sound(tally: &Tally) {
     println!("weighted answers F {fixed}");
     println!("weighted totals {}", tally.weighted_totals);
     println!("weighted grades {}", tally.weighted_grades);
+    shown("weighted sheets", Call::WeightedSheet, tally);
     println!("differences {}", tally.differences);
+}
+
+/// How many sheets of each kind a call has printed.
+fn shown(words: &str, call: Call, tally: &Tally) {
+    for kind in KINDS {
+        println!("{words} with {} {}", kind.words(), tally.shown(call, kind));
+    }
 }
 
 /// The counts of the second part.

@@ -1,6 +1,7 @@
 //! Counts of what was compared, the rules that were met, and the report of differences.
 
-use crate::calls::{prints, refused_by, Call, COUNT, RULES};
+use crate::calls::{prints, refused_by, shows, Call, COUNT, RULES};
+use archive::printed::{Kind, Printed, KINDS};
 use archive::Reply;
 use listing::book::Edition;
 
@@ -43,6 +44,8 @@ pub struct Tally {
     met: [[usize; RULES]; COUNT],
     /// For each call how often it printed the refusal by each rule as a sheet.
     printed: [[usize; RULES]; COUNT],
+    /// For each call how many sheets of each kind it printed.
+    shown: [[usize; KINDS.len()]; COUNT],
     /// For each call how many repairs moved students who weigh more than 0 and left others who do.
     mixed: [usize; COUNT],
     pub differences: usize,
@@ -64,6 +67,18 @@ impl Tally {
     /// How often a call has printed a refusal as a sheet.
     pub fn printed(&self, call: Call) -> usize {
         self.printed[call as usize].iter().sum()
+    }
+
+    /// Counts a sheet by its kinds.
+    pub fn count_shown(&mut self, call: Call, printed: &Printed) {
+        for kind in KINDS {
+            self.shown[call as usize][kind as usize] += printed.is(kind) as usize;
+        }
+    }
+
+    /// How many sheets of a kind a call has printed.
+    pub fn shown(&self, call: Call, kind: Kind) -> usize {
+        self.shown[call as usize][kind as usize]
     }
 
     /// Counts a repair by the total weights of the students whom it moves and of those whom it leaves.
@@ -99,6 +114,9 @@ impl Tally {
         for (printed, more) in self.printed.iter_mut().flatten().zip(other.printed.iter().flatten()) {
             *printed += more;
         }
+        for (shown, more) in self.shown.iter_mut().flatten().zip(other.shown.iter().flatten()) {
+            *shown += more;
+        }
         for (mixed, more) in self.mixed.iter_mut().zip(other.mixed) {
             *mixed += more;
         }
@@ -106,16 +124,18 @@ impl Tally {
     }
 
     /// For books of an edition: the calls that never gave a result or were never refused by a rule that they have,
-    /// the refusals that they never printed as a sheet, and the calls for a repair that never moved students and left
-    /// others.
+    /// the refusals and the kinds of sheets that they never printed, and the calls for a repair that never moved
+    /// students and left others.
     pub fn missing(&self, edition: Edition) -> Vec<String> {
         let unmet = refused_by(edition).filter(|&(call, rule)| self.met[call as usize][rule] == 0);
         let unprinted = prints(edition).filter(|&(call, rule)| self.printed[call as usize][rule] == 0);
+        let unshown = shows(edition).filter(|&(call, kind)| self.shown(call, kind) == 0);
         let unmixed = [Call::Repair, Call::WeightedRepair].into_iter().filter(|&call| self.mixed(call) == 0);
         let unmet = unmet.map(|(call, rule)| format!("{call:?} by rule {rule}"));
         let unprinted = unprinted.map(|(call, rule)| format!("{call:?} that prints the refusal by rule {rule}"));
+        let unshown = unshown.map(|(call, kind)| format!("{call:?} with {}", kind.words()));
         let unmixed = unmixed.map(|call| format!("{call:?} that moves students and leaves others"));
-        unmet.chain(unprinted).chain(unmixed).collect()
+        unmet.chain(unprinted).chain(unshown).chain(unmixed).collect()
     }
 
     /// Counts a difference and prints it if it is one of the first; ends the program when there are many.
@@ -135,11 +155,11 @@ impl Tally {
 mod tests {
     use super::*;
 
-    /// A tally in which every call has met each of its rules, every refusal that a sheet can print was printed, and
+    /// A tally in which every call has met each of its rules, every refusal and every kind of sheet was printed, and
     /// repairs have moved students and left others.
     fn complete() -> Tally {
-        let (met, printed) = ([[1; RULES]; COUNT], [[1; RULES]; COUNT]);
-        Tally { met, printed, mixed: [1; COUNT], ..Tally::default() }
+        let (met, printed, shown) = ([[1; RULES]; COUNT], [[1; RULES]; COUNT], [[1; KINDS.len()]; COUNT]);
+        Tally { met, printed, shown, mixed: [1; COUNT], ..Tally::default() }
     }
 
     /// What was never met is missed, and nothing else.
@@ -153,6 +173,17 @@ mod tests {
         assert_eq!(tally.missing(Edition::One)[1..], ["WeightedSheet that prints the refusal by rule 17"]);
         tally.mixed[Call::WeightedRepair as usize] = 0;
         assert_eq!(tally.missing(Edition::Two)[2..], ["WeightedRepair that moves students and leaves others"]);
+        for kind in KINDS {
+            let mut tally = complete();
+            tally.shown.iter_mut().for_each(|kinds| kinds[kind as usize] = 0);
+            let missing = [Edition::One, Edition::Two].map(|edition| tally.missing(edition).len());
+            let due = match kind {
+                Kind::FixedAndAlone => [0, 2],
+                Kind::GradeZero => [1, 1],
+                _ => [2, 2],
+            };
+            assert_eq!(missing, due, "{kind:?}");
+        }
         for rule in 1..RULES {
             let mut tally = complete();
             tally.met.iter_mut().for_each(|rules| rules[rule] = 0);

@@ -4,6 +4,7 @@
 use crate::both::Both;
 use crate::draw::Draw;
 use crate::tally::letter_place;
+use archive::NO_GRADE;
 use listing::asked::Asked;
 use listing::matching::Matching;
 use listing::people::{Man, Woman};
@@ -54,7 +55,8 @@ impl Both {
                 }
             }
         }
-        self.tally.weighted_grades += self.weighted_grade(book, &matching, weights).value;
+        let grade = self.weighted_grade(book, &matching, weights).value;
+        self.tally.weighted_grades += if grade == NO_GRADE { 0 } else { grade };
         self.weighted_sheet(&[book.book(), &matching, weights].concat(), SHEET_ROOM);
     }
 

@@ -11,6 +11,9 @@ pub struct Reply {
     pub value: usize,
 }
 
+/// The value of a grade call where no pair can be repaired: PLACEMENT_NO_GRADE of the header.
+pub const NO_GRADE: usize = usize::MAX;
+
 impl Reply {
     /// The reply that carries a number and nothing else.
     pub fn value(value: usize) -> Reply {

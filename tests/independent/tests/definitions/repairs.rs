@@ -1,5 +1,6 @@
 //! Repairs, fixed pairs and the grade in the words of document 01, over the list of all stable matchings. Each man has
 //! a weight (W-201); document 01 itself counts men, so there each weighs 1. A man who is alone is no pair (W-203).
+//! Where no pair can be repaired there is no grade (W-204).
 
 use super::{weight_moved, Market, Matching};
 
@@ -44,22 +45,30 @@ impl Market {
         answer
     }
 
+    /// The men whose pairs every stable matching holds, or where `fixed` is false, whose pairs some matching does not.
+    fn men(&self, stable: &[Matching], given: &Matching, fixed: bool) -> Vec<usize> {
+        let held = |man: usize| stable.iter().all(|m| m[man] == given[man]);
+        (0..self.n).filter(|&man| given[man].is_some() && held(man) == fixed).collect()
+    }
+
     /// The grade, as demand 3 has it: the least number such that, for each pair that is not fixed, some stable
-    /// matching without it moves men of at most that total weight besides the asking one.
-    pub fn grade(&self, stable: &[Matching], given: &Matching, weights: &[u8]) -> usize {
+    /// matching without it moves men of at most that total weight besides the asking one. None where all are fixed.
+    pub fn grade(&self, stable: &[Matching], given: &Matching, weights: &[u8]) -> Option<usize> {
+        let not_fixed = self.men(stable, given, false);
         let enough = |b: usize| {
-            (0..self.n).filter(|&man| given[man].is_some()).all(|man| {
+            not_fixed.iter().all(|&man| {
                 let others = |m: &Matching| weight_moved(m, given, weights) - weights[man] as usize;
-                let mut without = stable.iter().filter(|m| m[man] != given[man]).peekable();
-                without.peek().is_none() || without.any(|m| others(m) <= b)
+                stable.iter().any(|m| m[man] != given[man] && others(m) <= b)
             })
         };
-        (0..).find(|&b| enough(b)).unwrap()
+        (!not_fixed.is_empty()).then(|| (0..).find(|&b| enough(b)).unwrap())
     }
 
     /// The sheet of a stable matching.
     pub fn sheet(&self, stable: &[Matching], rotations: usize, given: &Matching, weights: &[u8]) -> String {
-        let mut sheet = format!("{} {} {}\n", self.n, rotations, self.grade(stable, given, weights));
+        let grade = self.grade(stable, given, weights).map_or("-".to_string(), |grade| grade.to_string());
+        let fixed = self.men(stable, given, true).len();
+        let mut sheet = format!("{} {rotations} {fixed} {grade}\n", self.n);
         for man in 0..self.n {
             let Some(woman) = given[man] else {
                 sheet += &format!("{man} - N 0\n");
