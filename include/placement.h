@@ -29,19 +29,23 @@ extern "C" {
 
 /* The version of this interface. The second number rises where something is added, the first where a program that was
  * written for the version before may have to be changed. */
-#define PLACEMENT_VERSION_MAJOR 1
-#define PLACEMENT_VERSION_MINOR 2
+#define PLACEMENT_VERSION_MAJOR 2
+#define PLACEMENT_VERSION_MINOR 0
 
 /* The largest of each over all books: buffers of these sizes are always long enough. */
 #define PLACEMENT_LARGEST_N 64                /* students, and mentors: bytes of a matching, entries of the gains */
 #define PLACEMENT_LARGEST_BOOK 8706           /* bytes of a book of either edition */
-#define PLACEMENT_LARGEST_SHEET 715           /* bytes of a sheet */
-#define PLACEMENT_LARGEST_WEIGHTED_SHEET 910  /* bytes of a weighted sheet: totals up to 64 * 255 = 16,320 */
+#define PLACEMENT_LARGEST_SHEET 718           /* bytes of a sheet */
+#define PLACEMENT_LARGEST_WEIGHTED_SHEET 913  /* bytes of a weighted sheet: totals up to 64 * 255 = 16,320 */
 #define PLACEMENT_LARGEST_ROTATION_COUNT 2016 /* rotations, n(n - 1)/2: bytes of a set */
 #define PLACEMENT_LARGEST_ROTATION_LIST 10080 /* bytes of a list of rotations: five for each of so many */
 
 /* The byte of a student without a mentor, in a matching of a book of edition 2. */
 #define PLACEMENT_NOBODY 255
+
+/* The value of a grade where no pair can be repaired: every pair is fixed, or there is none at all. No grade takes it:
+ * a grade that is a number is at most 64, with weights at most 64 * 255 = 16,320. */
+#define PLACEMENT_NO_GRADE SIZE_MAX
 
 /* The bytes of stack that a call needs, at most, whatever n is: as tests/stack measures the archive, rounded up.
  * Nothing is allocated otherwise, so the tables of a call lie on the stack of the thread that makes it. */
@@ -122,7 +126,9 @@ struct placement_reply placement_repair(const uint8_t *book, size_t book_len, co
                                         const uint8_t *request, size_t request_len, uint8_t *out, size_t out_len,
                                         int8_t *gains, size_t gains_len);
 
-/* value: the grade of a stable matching. Students without a mentor are no pairs and do not count.
+/* value: the grade of a stable matching, which is the largest distance that placement_repair gives, less 1, over the
+ * pairs that are not fixed; PLACEMENT_NO_GRADE where no pair can be repaired. Students without a mentor are no pairs
+ * and do not count.
  * Refused: the book, then 8, 9, 19, 10. */
 struct placement_reply placement_grade(const uint8_t *book, size_t book_len, const uint8_t *matching, size_t matching_len);
 
@@ -146,9 +152,10 @@ struct placement_reply placement_set_to_matching(const uint8_t *book, size_t boo
 struct placement_reply placement_matching_to_set(const uint8_t *book, size_t book_len, const uint8_t *matching, size_t matching_len,
                                                  uint8_t *out, size_t out_len);
 
-/* The sheet of a book with a matching after it, as the sheet program prints it, to out. The line of a student i without
- * a mentor is `i - N 0`. value: bytes written. Refused: 14 only. A bad book or matching is no refusal here: number is 0,
- * and the sheet is the line `refused`, a space and the number of the rule.
+/* The sheet of a book with a matching after it, as the sheet program prints it, to out. Line one is n, the number of
+ * rotations, the number of fixed pairs and the grade, which is `-` where no pair can be repaired. The line of a student
+ * i without a mentor is `i - N 0`; he does not count as fixed. value: bytes written. Refused: 14 only. A bad book or
+ * matching is no refusal here: number is 0, and the sheet is the line `refused`, a space and the number of the rule.
  * In edition 1 the book is as many bytes as n says. In edition 2 it ends where the last list does, which is the sum of
  * the last directory pair, offset and length, two bytes each, low byte first; but never before the end of the
  * directory, 2 + 8n. Where the input has fewer bytes, all of it is the book. What follows is the matching. */
@@ -165,7 +172,8 @@ struct placement_reply placement_weighted_repair(const uint8_t *book, size_t boo
                                                  size_t gains_len);
 
 /* value: the weighted grade of a stable matching, which is the largest, over the pairs that are not fixed, of the total
- * less the weight of the pair's own student; 0 if all are fixed. Refused: the book, then 8, 9, 19, 10, then 17. */
+ * less the weight of the pair's own student; PLACEMENT_NO_GRADE where no pair can be repaired. Where one can, a grade
+ * of 0 says that all others who are moved weigh 0. Refused: the book, then 8, 9, 19, 10, then 17. */
 struct placement_reply placement_weighted_grade(const uint8_t *book, size_t book_len, const uint8_t *matching, size_t matching_len,
                                                 const uint8_t *weights, size_t weights_len);
 

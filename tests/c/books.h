@@ -29,6 +29,10 @@ extern const struct table_1_set {
     uint8_t set[6], matching[7];
 } table_1_sets[8];
 
+/* Three students. Two rotations: stable are 1 0 2, 2 0 1 and 2 1 0, as students 0 and 2 exchange their mentors and then
+ * students 1 and 2. One fixed: students 0 and 1 can exchange mentors 0 and 1, and student 2 keeps mentor 2. */
+extern const char two_rotations_lists[], one_fixed_lists[];
+
 /* Six students and six mentors, edition 2, a word for each list. Students 0 and 1 can exchange their mentors, 0 and 1:
  * one rotation. Students 2 and 3 would exchange theirs, 2 and 3, but for mentor 4: she is alone, and student 2 prefers
  * her to mentor 3, so that their pairs are fixed. Student 4 is alone, as mentor 1 always has one whom she prefers.

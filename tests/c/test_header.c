@@ -15,8 +15,9 @@ static void words(void)
     for (int number = 0; number < 20; number++) {
         HOLDS(numbers[number] == number);
     }
-    HOLDS(PLACEMENT_VERSION_MAJOR == 1 && PLACEMENT_VERSION_MINOR >= 2);
+    HOLDS(PLACEMENT_VERSION_MAJOR == 2 && PLACEMENT_VERSION_MINOR == 0);
     HOLDS(PLACEMENT_NOBODY == 255);
+    HOLDS(PLACEMENT_NO_GRADE == SIZE_MAX);
 }
 
 /* The repair of Table 1's matching for a request of so many of these bytes, with result buffers of so many entries. */
@@ -77,6 +78,15 @@ static void sheets_fit(struct book book)
     HOLDS(sheet.number == PLACEMENT_FINE && 600 < sheet.value && sheet.value <= weighted_room);
 }
 
+/* The longest sheets, with a byte after each field. Line one (W-204): n, rotations of four digits, fixed pairs, and a
+ * grade of two digits or, with weights, five. The line of each of 64: student, mentor, letter, and a distance of as
+ * many digits as the grade. */
+static void longest_sheets(void)
+{
+    HOLDS(PLACEMENT_LARGEST_SHEET == 3 + 5 + 3 + 3 + 64 * (3 + 3 + 2 + 3));
+    HOLDS(PLACEMENT_LARGEST_WEIGHTED_SHEET == 3 + 5 + 3 + 6 + 64 * (3 + 3 + 2 + 6));
+}
+
 /* The largest of each. The xor lists have the most rotations there can be, and the longest list of them. */
 static void constants(void)
 {
@@ -96,5 +106,6 @@ void test_header(void)
 {
     words();
     each_rule();
+    longest_sheets();
     constants();
 }

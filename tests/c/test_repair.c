@@ -103,7 +103,7 @@ static void is_fixed(struct book book, uint8_t student)
 static void fixed_pairs(void)
 {
     static const uint8_t same[3] = {0, 1, 2}, exchanged[3] = {1, 0, 2};
-    struct book three = book_of(3, "012" "102" "201" "102" "012" "201");
+    struct book three = book_of(3, one_fixed_lists);
     is_fixed(book_of(1, "00"), 0);
     is_fixed(book_of(2, "01010101"), 0);
     is_fixed(book_of(2, "01010101"), 1);
@@ -166,21 +166,32 @@ static struct placement_reply grade(struct book book, const uint8_t *matching, s
 
 static void grades(void)
 {
-    static const uint8_t straight[2] = {0, 1}, crossed[2] = {1, 0}, none[2] = {1, 0}, exchanged[8] = {5, 4, 6, 1, 3, 0, 2};
+    static const uint8_t straight[2] = {0, 1}, crossed[2] = {1, 0}, exchanged[8] = {5, 4, 6, 1, 3, 0, 2};
     struct book table_1 = book_of(7, table_1_lists), two = book_of(2, "01101001");
     struct placement_reply unstable = {10, 3, 3, 0, 0};
     EXPECT(grade(table_1, table_1_m5, 7), value(3));
     EXPECT(grade(two, straight, 2), value(1));
     EXPECT(grade(two, crossed, 2), value(1));
-    EXPECT(grade(book_of(2, "01010101"), straight, 2), value(0));
-    EXPECT(grade(book_of(1, "00"), straight, 1), value(0));
-    EXPECT(placement_grade(none, 2, NULL, 0), value(0));
     EXPECT(grade(with(table_1, 155, 9), exchanged, 8), refused(6, 155));
     EXPECT(grade(table_1, exchanged, 8), refused(8, 0));
     EXPECT(grade(table_1, crossed, 2), refused(8, 0));
     EXPECT(grade(table_1, (const uint8_t[7]){4, 5, 6, 3, 1, 7, 4}, 7), refused(9, 5));
     EXPECT(grade(table_1, exchanged, 7), unstable);
     EXPECT(placement_grade(NULL, 0, NULL, 0), refused(1, 0));
+}
+
+/* W-204: where no pair can be repaired there is no grade: one stable matching alone, or nobody. Where three students
+ * rank 0 1 2 and all mentors 2 1 0, mentor 0 has student 2, and of the others mentor 1 has student 1. A fixed pair
+ * beside two students who can exchange their mentors leaves a number. */
+static void no_grade(void)
+{
+    static const uint8_t same[3] = {0, 1, 2}, exchanged[3] = {1, 0, 2}, crossed[3] = {2, 1, 0}, none[2] = {1, 0};
+    EXPECT(grade(book_of(3, "012012012210210210"), crossed, 3), value(PLACEMENT_NO_GRADE));
+    EXPECT(grade(book_of(2, "01010101"), same, 2), value(PLACEMENT_NO_GRADE));
+    EXPECT(grade(book_of(1, "00"), same, 1), value(PLACEMENT_NO_GRADE));
+    EXPECT(placement_grade(none, 2, NULL, 0), value(PLACEMENT_NO_GRADE));
+    EXPECT(grade(book_of(3, one_fixed_lists), same, 3), value(1));
+    EXPECT(grade(book_of(3, one_fixed_lists), exchanged, 3), value(1));
 }
 
 /* n = 64. Cyclic lists: everybody moves by one place. Xor lists: two students change. Ends and a middle. */
@@ -221,5 +232,6 @@ void test_repair(void)
     bad_requests();
     bad_matchings();
     grades();
+    no_grade();
     large();
 }

@@ -14,13 +14,22 @@ static void worked(void)
 {
     static const uint8_t straight[2] = {0, 1}, crossed[2] = {1, 0};
     struct book two = book_of(2, "01101001");
-    prints(book_of(0, ""), "0 0 0\n");
-    prints(followed(book_of(1, "00"), straight, 1), "1 0 0\n0 0 F 0\n");
-    prints(followed(two, straight, 2), "2 1 1\n0 0 D 2\n1 1 D 2\n");
-    prints(followed(two, crossed, 2), "2 1 1\n0 1 U 2\n1 0 U 2\n");
+    prints(book_of(0, ""), "0 0 0 -\n");
+    prints(followed(book_of(1, "00"), straight, 1), "1 0 1 -\n0 0 F 0\n");
+    prints(followed(two, straight, 2), "2 1 0 1\n0 0 D 2\n1 1 D 2\n");
+    prints(followed(two, crossed, 2), "2 1 0 1\n0 1 U 2\n1 0 U 2\n");
     prints(followed(book_of(2, "01010101"), crossed, 2), "refused 10\n");
     prints(followed(book_of(7, table_1_lists), table_1_m5, 7),
-           "7 6 3\n0 4 U 2\n1 5 U 4\n2 6 D 2\n3 3 D 4\n4 1 D 2\n5 2 U 2\n6 0 D 2\n");
+           "7 6 0 3\n0 4 U 2\n1 5 U 4\n2 6 D 2\n3 3 D 4\n4 1 D 2\n5 2 U 2\n6 0 D 2\n");
+}
+
+/* Line one (W-204): one pair of three is fixed, and both of two; none of three with two rotations. */
+static void fixed_pairs(void)
+{
+    static const uint8_t same[3] = {0, 1, 2}, between[3] = {2, 0, 1};
+    prints(followed(book_of(2, "01010101"), same, 2), "2 0 2 -\n0 0 F 0\n1 1 F 0\n");
+    prints(followed(book_of(3, one_fixed_lists), same, 3), "3 1 1 1\n0 0 D 2\n1 1 D 2\n2 2 F 0\n");
+    prints(followed(book_of(3, two_rotations_lists), between, 3), "3 2 0 1\n0 2 U 2\n1 0 D 2\n2 1 U 2\n");
 }
 
 static void refusals(void)
@@ -69,9 +78,11 @@ static void prints_64(struct book book, const char *head, const char *tail)
 void test_sheet(void)
 {
     worked();
+    fixed_pairs();
     refusals();
-    prints_64(xor_64(), "64 2016 1", "D 2");
-    prints_64(cyclic_64(), "64 63 63", "D 64");
-    prints_64(short_xor_64(8), "64 224 1", "D 2");
-    prints_64(short_cyclic_64(8), "64 7 63", "D 64");
+    prints_64(xor_64(), "64 2016 0 1", "D 2");
+    prints_64(cyclic_64(), "64 63 0 63", "D 64");
+    prints_64(short_xor_64(8), "64 224 0 1", "D 2");
+    prints_64(short_cyclic_64(8), "64 7 0 63", "D 64");
+    prints_64(short_cyclic_64(1), "64 0 64 -", "F 0");
 }

@@ -1,6 +1,8 @@
 /* Edition 2 (W-203): the repair of a pair and the grade, plain and with weights, beside people who are alone. */
 #include "asked.h"
 
+#include <string.h>
+
 static struct lent out, gains, plain_out, plain_gains;
 
 /* The plain repair. */
@@ -121,7 +123,7 @@ static struct placement_reply grade(struct book book, const uint8_t *matching)
 /* Whoever is alone is no pair: he counts neither in the grade nor as fixed. */
 static void grades(void)
 {
-    static const uint8_t m5[8] = {4, 5, 6, 3, 1, 2, 0, 255}, nobody[2] = {255, 255};
+    static const uint8_t m5[8] = {4, 5, 6, 3, 1, 2, 0, 255};
     uint8_t first[64];
     for (size_t i = 0; i < 64; i++) {
         first[i] = (uint8_t)i;
@@ -129,10 +131,39 @@ static void grades(void)
     EXPECT(grade(short_book(6, six_lists), six_best), value(1));
     EXPECT(grade(short_book(6, six_lists), six_worst), value(1));
     EXPECT(grade(short_book(8, short_table_1_lists), m5), value(3));
-    EXPECT(grade(short_book(2, "- - - -"), nobody), value(0));
-    EXPECT(grade(short_book(0, ""), nobody), value(0));
     EXPECT(grade(short_cyclic_64(8), first), value(63));
     EXPECT(grade(short_xor_64(8), first), value(1));
+}
+
+/* W-204: no pair can be repaired, plainly or with weights of 0, 1 and 255. */
+static void has_no_grade(struct book book, const uint8_t *matching)
+{
+    uint8_t weights[64];
+    EXPECT(grade(book, matching), value(PLACEMENT_NO_GRADE));
+    for (size_t k = 0; k < 3; k++) {
+        memset(weights, k == 2 ? 255 : (int)k, 64);
+        struct asked asked = asked_of(book, matching, weights, NULL);
+        EXPECT(weighted_grade(&asked), value(PLACEMENT_NO_GRADE));
+    }
+}
+
+/* Nobody; one and two students without a mentor; one beside a fixed pair, and the pair alone; 64, of whom half have no
+ * mentor, and 64 pairs. */
+static void no_grade(void)
+{
+    static const uint8_t nobody[2] = {255, 255}, one[2] = {0, 255};
+    uint8_t half[64], first[64];
+    for (size_t i = 0; i < 64; i++) {
+        half[i] = (uint8_t)(i % 2 == 0 ? i : 255);
+        first[i] = (uint8_t)i;
+    }
+    has_no_grade(short_book(0, ""), nobody);
+    has_no_grade(short_book(1, "- -"), nobody);
+    has_no_grade(short_book(2, "- - - -"), nobody);
+    has_no_grade(short_book(2, "0 - 0 -"), one);
+    has_no_grade(short_book(1, "0 0"), one);
+    has_no_grade(half_64(), half);
+    has_no_grade(short_cyclic_64(1), first);
 }
 
 /* Weights: students 4 and 5 weigh most and are never moved. Student 0's total is 37 and his own weight 7. */
@@ -173,6 +204,7 @@ void test_short_repair(void)
     alone();
     rooms();
     grades();
+    no_grade();
     weights();
     table_1_weights();
 }

@@ -1,5 +1,5 @@
-/* Edition 2 (W-203): the sheet and the weighted sheet, with the line `i - N 0` of a student without a mentor, and
- * how an input is parted into book and matching. */
+/* Edition 2 (W-203): the sheet and the weighted sheet, with the line `i - N 0` of a student without a mentor, who does
+ * not count as fixed (W-204), and how an input is parted into book and matching. */
 #include "printed.h"
 
 #include <stdio.h>
@@ -27,32 +27,36 @@ static struct book with_weights(struct book book, const uint8_t *matching, const
 
 static void worked(void)
 {
-    static const uint8_t m5[8] = {4, 5, 6, 3, 1, 2, 0, 255}, nobody[2] = {255, 255}, zero[1] = {0};
+    static const uint8_t m5[8] = {4, 5, 6, 3, 1, 2, 0, 255}, nobody[2] = {255, 255}, one[2] = {0, 255};
     struct book six = short_book(6, six_lists);
-    prints(with_matching(six, six_best), "6 1 1\n0 0 D 2\n1 1 D 2\n2 2 F 0\n3 3 F 0\n4 - N 0\n5 - N 0\n");
-    prints(with_matching(six, six_worst), "6 1 1\n0 1 U 2\n1 0 U 2\n2 2 F 0\n3 3 F 0\n4 - N 0\n5 - N 0\n");
+    prints(with_matching(six, six_best), "6 1 2 1\n0 0 D 2\n1 1 D 2\n2 2 F 0\n3 3 F 0\n4 - N 0\n5 - N 0\n");
+    prints(with_matching(six, six_worst), "6 1 2 1\n0 1 U 2\n1 0 U 2\n2 2 F 0\n3 3 F 0\n4 - N 0\n5 - N 0\n");
     prints(with_matching(short_book(8, short_table_1_lists), m5),
-           "8 6 3\n0 4 U 2\n1 5 U 4\n2 6 D 2\n3 3 D 4\n4 1 D 2\n5 2 U 2\n6 0 D 2\n7 - N 0\n");
-    prints(short_book(0, ""), "0 0 0\n");
-    prints(with_matching(short_book(1, "0 0"), zero), "1 0 0\n0 0 F 0\n");
-    prints(with_matching(short_book(1, "- -"), nobody), "1 0 0\n0 - N 0\n");
-    prints(with_matching(short_book(2, "- - - -"), nobody), "2 0 0\n0 - N 0\n1 - N 0\n");
+           "8 6 0 3\n0 4 U 2\n1 5 U 4\n2 6 D 2\n3 3 D 4\n4 1 D 2\n5 2 U 2\n6 0 D 2\n7 - N 0\n");
+    prints(short_book(0, ""), "0 0 0 -\n");
+    prints(with_matching(short_book(1, "0 0"), one), "1 0 1 -\n0 0 F 0\n");
+    prints(with_matching(short_book(1, "- -"), nobody), "1 0 0 -\n0 - N 0\n");
+    prints(with_matching(short_book(2, "- - - -"), nobody), "2 0 0 -\n0 - N 0\n1 - N 0\n");
+    prints(with_matching(short_book(2, "0 - 0 -"), one), "2 0 1 -\n0 0 F 0\n1 - N 0\n");
 }
 
 /* The totals of Table 1 are worked out in test_weights.c. Whoever is alone may weigh anything. */
 static void weighted(void)
 {
     static const uint8_t m5[8] = {4, 5, 6, 3, 1, 2, 0, 255}, given[8] = {1, 1, 9, 1, 1, 3, 1, 255};
-    static const uint8_t nobody[2] = {255, 255}, six_weights[6] = {7, 30, 1, 1, 255, 255};
+    static const uint8_t nobody[2] = {255, 255}, one[2] = {0, 255}, six_weights[6] = {7, 30, 1, 1, 255, 255};
     struct book six = short_book(6, six_lists);
     prints_weighted(with_weights(six, six_best, six_weights),
-                    "6 1 30\n0 0 D 37\n1 1 D 37\n2 2 F 0\n3 3 F 0\n4 - N 0\n5 - N 0\n");
+                    "6 1 2 30\n0 0 D 37\n1 1 D 37\n2 2 F 0\n3 3 F 0\n4 - N 0\n5 - N 0\n");
     prints_weighted(with_weights(six, six_worst, six_weights),
-                    "6 1 30\n0 1 U 37\n1 0 U 37\n2 2 F 0\n3 3 F 0\n4 - N 0\n5 - N 0\n");
+                    "6 1 2 30\n0 1 U 37\n1 0 U 37\n2 2 F 0\n3 3 F 0\n4 - N 0\n5 - N 0\n");
     prints_weighted(with_weights(short_book(8, short_table_1_lists), m5, given),
-                    "8 6 11\n0 4 D 2\n1 5 U 6\n2 6 D 10\n3 3 D 12\n4 1 D 2\n5 2 U 4\n6 0 U 6\n7 - N 0\n");
-    prints_weighted(with_weights(short_book(2, "- - - -"), nobody, given), "2 0 0\n0 - N 0\n1 - N 0\n");
-    prints_weighted(short_book(0, ""), "0 0 0\n");
+                    "8 6 0 11\n0 4 D 2\n1 5 U 6\n2 6 D 10\n3 3 D 12\n4 1 D 2\n5 2 U 4\n6 0 U 6\n7 - N 0\n");
+    prints_weighted(with_weights(six, six_best, (const uint8_t[6]){0}),
+                    "6 1 2 0\n0 0 D 0\n1 1 D 0\n2 2 F 0\n3 3 F 0\n4 - N 0\n5 - N 0\n");
+    prints_weighted(with_weights(short_book(2, "- - - -"), nobody, given), "2 0 0 -\n0 - N 0\n1 - N 0\n");
+    prints_weighted(with_weights(short_book(2, "0 - 0 -"), one, given), "2 0 1 -\n0 0 F 0\n1 - N 0\n");
+    prints_weighted(short_book(0, ""), "0 0 0 -\n");
 }
 
 /* Every rule that a book or a matching of edition 2 can break. */
@@ -85,7 +89,7 @@ static void cut_inputs(void)
     struct book six = short_book(6, six_lists), whole = with_weights(six, six_best, ones), cut = whole;
     for (cut.length = 1; cut.length <= 76; cut.length++) {
         const char *due = cut.length < 70 ? "refused 1\n" : "refused 8\n";
-        prints(cut, cut.length < 76 ? due : "6 1 1\n0 0 D 2\n1 1 D 2\n2 2 F 0\n3 3 F 0\n4 - N 0\n5 - N 0\n");
+        prints(cut, cut.length < 76 ? due : "6 1 2 1\n0 0 D 2\n1 1 D 2\n2 2 F 0\n3 3 F 0\n4 - N 0\n5 - N 0\n");
         prints_weighted(cut, cut.length < 76 ? due : "refused 17\n");
     }
     for (; cut.length < 82; cut.length++) {
@@ -131,7 +135,7 @@ static void half_alone(void)
 {
     static char due[1024];
     uint8_t matching[64];
-    int length = snprintf(due, sizeof due, "64 0 0\n");
+    int length = snprintf(due, sizeof due, "64 0 32 -\n");
     for (int i = 0; i < 64; i++) {
         matching[i] = (uint8_t)(i % 2 == 0 ? i : 255);
         length += i % 2 == 0 ? snprintf(due + length, sizeof due - (size_t)length, "%d %d F 0\n", i, i)

@@ -67,7 +67,7 @@ static void null_pointers(void)
     struct book table_1 = book_of(7, table_1_lists);
     EXPECT(placement_weighted_grade(table_1.bytes, 156, table_1_m5, 7, NULL, 0), refused(17, 0));
     EXPECT(placement_weighted_repair(table_1.bytes, 156, table_1_m5, 7, NULL, 0, pair, 2, NULL, 0, NULL, 0), refused(17, 0));
-    EXPECT(placement_weighted_grade(none, 2, NULL, 0, NULL, 0), value(0));
+    EXPECT(placement_weighted_grade(none, 2, NULL, 0, NULL, 0), value(PLACEMENT_NO_GRADE));
     EXPECT(placement_weighted_grade(none, 2, NULL, 0, none, 1), refused(17, 0));
     EXPECT(placement_weighted_grade(none, 2, none, 1, none, 1), refused(8, 0));
     EXPECT(placement_weighted_grade(NULL, 0, NULL, 0, NULL, 0), refused(1, 0));

@@ -21,26 +21,36 @@ static void table_1(void)
 {
     struct book book = book_of(7, table_1_lists);
     prints(input_of(book, table_1_m5, (const uint8_t[7]){1, 1, 1, 1, 1, 1, 1}),
-           "7 6 3\n0 4 U 2\n1 5 U 4\n2 6 D 2\n3 3 D 4\n4 1 D 2\n5 2 U 2\n6 0 D 2\n");
+           "7 6 0 3\n0 4 U 2\n1 5 U 4\n2 6 D 2\n3 3 D 4\n4 1 D 2\n5 2 U 2\n6 0 D 2\n");
     prints(input_of(book, table_1_m5, (const uint8_t[7]){1, 1, 9, 1, 1, 3, 1}),
-           "7 6 11\n0 4 D 2\n1 5 U 6\n2 6 D 10\n3 3 D 12\n4 1 D 2\n5 2 U 4\n6 0 U 6\n");
+           "7 6 0 11\n0 4 D 2\n1 5 U 6\n2 6 D 10\n3 3 D 12\n4 1 D 2\n5 2 U 4\n6 0 U 6\n");
     prints(input_of(book, table_1_m5, (const uint8_t[7]){1, 2, 4, 8, 16, 32, 64}),
-           "7 6 76\n0 4 D 17\n1 5 D 78\n2 6 D 68\n3 3 D 78\n4 1 D 17\n5 2 U 33\n6 0 D 68\n");
+           "7 6 0 76\n0 4 D 17\n1 5 D 78\n2 6 D 68\n3 3 D 78\n4 1 D 17\n5 2 U 33\n6 0 D 68\n");
     prints(input_of(book, table_1_m5, (const uint8_t[7]){0, 0, 0, 0, 0, 0, 0}),
-           "7 6 0\n0 4 U 0\n1 5 U 0\n2 6 D 0\n3 3 D 0\n4 1 D 0\n5 2 U 0\n6 0 U 0\n");
+           "7 6 0 0\n0 4 U 0\n1 5 U 0\n2 6 D 0\n3 3 D 0\n4 1 D 0\n5 2 U 0\n6 0 U 0\n");
     prints(input_of(book, table_1_m5, (const uint8_t[7]){255, 255, 255, 255, 255, 255, 255}),
-           "7 6 765\n0 4 U 510\n1 5 U 1020\n2 6 D 510\n3 3 D 1020\n4 1 D 510\n5 2 U 510\n6 0 D 510\n");
+           "7 6 0 765\n0 4 U 510\n1 5 U 1020\n2 6 D 510\n3 3 D 1020\n4 1 D 510\n5 2 U 510\n6 0 D 510\n");
 }
 
 static void small(void)
 {
     static const uint8_t straight[2] = {0, 1}, crossed[2] = {1, 0}, weights[2] = {7, 30};
     struct book two = book_of(2, "01101001");
-    prints(book_of(0, ""), "0 0 0\n");
-    prints(input_of(book_of(1, "00"), straight, weights), "1 0 0\n0 0 F 0\n");
-    prints(input_of(two, straight, weights), "2 1 30\n0 0 D 37\n1 1 D 37\n");
-    prints(input_of(two, crossed, weights), "2 1 30\n0 1 U 37\n1 0 U 37\n");
-    prints(input_of(book_of(2, "01010101"), straight, weights), "2 0 0\n0 0 F 0\n1 1 F 0\n");
+    prints(book_of(0, ""), "0 0 0 -\n");
+    prints(input_of(book_of(1, "00"), straight, weights), "1 0 1 -\n0 0 F 0\n");
+    prints(input_of(two, straight, weights), "2 1 0 30\n0 0 D 37\n1 1 D 37\n");
+    prints(input_of(two, crossed, weights), "2 1 0 30\n0 1 U 37\n1 0 U 37\n");
+    prints(input_of(book_of(2, "01010101"), straight, weights), "2 0 2 -\n0 0 F 0\n1 1 F 0\n");
+}
+
+/* W-204: a grade of 0 where a pair has a repair of weight 1, as in test_weights.c, and one beside a fixed pair; `-`
+ * where all are fixed and weigh nothing. */
+static void zero_and_none(void)
+{
+    static const uint8_t between[3] = {2, 0, 1}, same[3] = {0, 1, 2}, own[3] = {1, 0, 0}, zeros[3] = {0};
+    prints(input_of(book_of(3, two_rotations_lists), between, own), "3 2 0 0\n0 2 U 1\n1 0 D 0\n2 1 D 0\n");
+    prints(input_of(book_of(3, one_fixed_lists), same, zeros), "3 1 1 0\n0 0 D 0\n1 1 D 0\n2 2 F 0\n");
+    prints(input_of(book_of(2, "01010101"), same, zeros), "2 0 2 -\n0 0 F 0\n1 1 F 0\n");
 }
 
 /* What follows the book: fewer than n bytes break 8, n bytes and then fewer or more than n weights 17. The book, 9 and
@@ -93,11 +103,13 @@ void test_weighted_sheet(void)
 {
     table_1();
     small();
+    zero_and_none();
     refusals();
-    prints_64(xor_64(), 1, "64 2016 1", "D 2");
-    prints_64(xor_64(), 255, "64 2016 255", "D 510");
-    prints_64(cyclic_64(), 255, "64 63 16065", "D 16320");
-    prints_64(cyclic_64(), 0, "64 63 0", "D 0");
-    prints_64(short_xor_64(8), 255, "64 224 255", "D 510");
-    prints_64(short_cyclic_64(8), 255, "64 7 16065", "D 16320");
+    prints_64(xor_64(), 1, "64 2016 0 1", "D 2");
+    prints_64(xor_64(), 255, "64 2016 0 255", "D 510");
+    prints_64(cyclic_64(), 255, "64 63 0 16065", "D 16320");
+    prints_64(cyclic_64(), 0, "64 63 0 0", "D 0");
+    prints_64(short_xor_64(8), 255, "64 224 0 255", "D 510");
+    prints_64(short_cyclic_64(8), 255, "64 7 0 16065", "D 16320");
+    prints_64(short_cyclic_64(1), 255, "64 0 64 -", "F 0");
 }

@@ -103,9 +103,29 @@ static void small(void)
     }
     EXPECT(grade(two, straight, weights), value(30));
     EXPECT(grade(two, crossed, weights), value(30));
-    EXPECT(grade(fixed, straight, weights), value(0));
     EXPECT(repair(book_of(1, "00"), straight, weights, 0), answer('F', 0));
-    EXPECT(grade(book_of(1, "00"), straight, weights), value(0));
+}
+
+/* W-204: a grade of 0 is a number, and where no pair can be repaired there is none, whatever the students weigh. Of
+ * three with two rotations student 0 alone weighs something: his pair is parted by the repair up, which moves 0 and 2,
+ * those of the others by the repair down, which moves 1 and 2. */
+static void zero_and_none(void)
+{
+    static const uint8_t between[3] = {2, 0, 1}, up[3] = {1, 0, 2}, down[3] = {2, 1, 0}, own[3] = {1, 0, 0};
+    static const uint8_t straight[2] = {0, 1}, weights[2] = {7, 30}, zeros[2] = {0};
+    struct book three = book_of(3, two_rotations_lists), fixed = book_of(2, "01010101");
+    EXPECT(repair(three, between, own, 0), answer('U', 1));
+    WROTE(&out, up, 3);
+    for (uint8_t student = 1; student < 3; student++) {
+        EXPECT(repair(three, between, own, student), answer('D', 0));
+        WROTE(&out, down, 3);
+    }
+    EXPECT(grade(three, between, own), value(0));
+    EXPECT(grade(book_of(2, "01101001"), straight, zeros), value(0));
+    EXPECT(grade(fixed, straight, weights), value(PLACEMENT_NO_GRADE));
+    EXPECT(grade(fixed, straight, zeros), value(PLACEMENT_NO_GRADE));
+    EXPECT(grade(book_of(1, "00"), straight, weights), value(PLACEMENT_NO_GRADE));
+    EXPECT(grade(book_of(0, ""), straight, weights), value(PLACEMENT_NO_GRADE));
 }
 
 /* n = 64. Cyclic lists: every stable matching moves all 64, which weigh 64 * 255, and the others 63 * 255.
@@ -168,11 +188,12 @@ void test_weights(void)
     }
     table_1();
     small();
+    zero_and_none();
     large();
     same_as_plain(book_of(7, table_1_lists), table_1_m5);
     same_as_plain(book_of(7, table_1_lists), table_1_best);
     same_as_plain(book_of(7, table_1_lists), table_1_worst);
-    same_as_plain(book_of(3, "012" "102" "201" "102" "012" "201"), straight);
+    same_as_plain(book_of(3, one_fixed_lists), straight);
     same_as_plain(book_of(2, "01010101"), straight);
     same_as_plain(xor_64(), at_0);
     same_as_plain(cyclic_64(), at_0);

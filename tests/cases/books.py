@@ -73,6 +73,10 @@ ONE = book_of("0 0")
 # Document 01: students 0 1 and 1 0, mentors 1 0 and 0 1; and all four lists 0 1
 TWO = book_of("01 10 10 01")
 SAME = book_of("01 01 01 01")
+# Three students. Stable are 1 0 2, 2 0 1 and 2 1 0: students 0 and 2 exchange their mentors, and then 1 and 2
+TWO_ROTATIONS = book_of("012 012 210 210 120 012")
+# Three students, of whom 0 and 1 can exchange mentors 0 and 1, and student 2 keeps mentor 2
+ONE_FIXED = book_of("012 102 201 102 012 201")
 # Table 1 of document 000: the students (men), then the mentors (women). Directory pair k at byte 2 + 4k, list k at
 # byte 58 + 7k
 TABLE_1 = book_of("""
@@ -100,8 +104,9 @@ SHORT_TABLE_1 = short_book_of("""
 52417 45023 60 32457 1204 0542 2506 620
 216457 04 5043167 13 40531 31650 627 30
 """)
-# One student and two, of whom nobody lists anybody; one who has his mentor
-LONE, LONE_TWO, ONE_SHORT = short_book_of("- -"), short_book_of("- - - -"), short_book_of("0 0")
+# One student and two, of whom nobody lists anybody; one who has his mentor; that one, beside one who lists nobody
+LONE, LONE_TWO = short_book_of("- -"), short_book_of("- - - -")
+ONE_SHORT, ONE_BESIDE = short_book_of("0 0"), short_book_of("0 - 0 -")
 # The largest n, lists of 8: `rounds` with those entries alone that are at a student's places 0 to 7
 SHORT_ROUNDS = short_book(
     [[(i + j) % 64 for j in range(8)] for i in range(64)] + [[(w - 7 + j) % 64 for j in range(8)] for w in range(64)]

@@ -53,12 +53,18 @@ class Market(Book):
         return letter, total, min(side, key=lambda x: sum(map(abs, self.gains(m, x))), default=None)
 
     def grade(self, m, weights):
+        """The largest total less the own weight, or None where no pair can be repaired (W-204)."""
         repairs = [(s, *self.repair(m, s, weights)) for s in self.people]
-        return max([total - weights[s] for s, letter, total, _ in repairs if letter in "UD"], default=0)
+        return max([total - weights[s] for s, letter, total, _ in repairs if letter in "UD"], default=None)
+
+    def fixed(self, m):
+        """How many pairs of m every stable matching holds."""
+        return sum(m[s] != NOBODY and all(x[s] == m[s] for x in self.all_stable) for s in self.people)
 
     def sheet(self, m, weights):
         """The lines."""
-        lines = [f"{self.n} {len(self.rotations())} {self.grade(m, weights)}"]
+        grade = self.grade(m, weights)
+        lines = [f"{self.n} {len(self.rotations())} {self.fixed(m)} {'-' if grade is None else grade}"]
         for s in self.people:
             letter, total, _ = self.repair(m, s, weights)
             lines.append(f"{s} {'-' if m[s] == NOBODY else m[s]} {letter} {total}")

@@ -29,6 +29,11 @@ def fine(value, place=0):
     return [0, place, 0, 0, value]
 
 
+def graded(grade):
+    """The reply of a grade; None, where no pair can be repaired, is PLACEMENT_NO_GRADE (document 02, W-204)."""
+    return fine(2**64 - 1 if grade is None else grade)
+
+
 def moved(letter, distance):
     """The reply of a repair; with weights the total is given for the distance."""
     return [0, 0, 0, ord(letter), distance]

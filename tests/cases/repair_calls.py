@@ -4,9 +4,11 @@ The expected replies and buffers are literals. For Table 1 of document 000 and i
 and 3: which repair, its distance, and the matching of the closed set that Table 2 gives; the grade is the largest b of
 Table 3. For the two-by-two book and the empty and the one-student book they are those of document 01, section 'Checked
 by hand', with the gains read off the lists. For the books FOUR and FIVE they were worked out by listing all matchings.
+Where no pair can be repaired there is no grade (document 02, W-204).
 """
-from cases.books import M5, NOBODY, ONE, SAME, TABLE_1, TWO, book_of, digits, put
-from cases.form import GRADE, REPAIR, case, fine, moved, refused
+from cases.books import FIRSTS, M5, NOBODY, ONE, ONE_FIXED, SAME, TABLE_1, TWO, TWO_ROTATIONS
+from cases.books import book_of, digits, put, shift
+from cases.form import GRADE, REPAIR, case, graded, moved, refused
 
 # For the matching 0321 student 1 has a repair up that moves three, 0213, and one down that moves two, 3021
 FOUR = book_of("0312 2301 1203 3102 1230 3021 2031 0132")
@@ -93,14 +95,16 @@ REFUSED = [
 
 # The grade: (what is tried, bytes of the book, matching, reply)
 GRADED = [
-    ("the largest b of Table 3", TABLE_1, M5, fine(3)),
-    ("n = 0", NOBODY, "", fine(0)),
-    ("n = 1", ONE, "0", fine(0)),
-    ("two by two, student-best", TWO, "01", fine(1)),
-    ("two by two, mentor-best", TWO, "10", fine(1)),
-    ("two alike", SAME, "01", fine(0)),
-    ("two besides the asking student", FOUR, "0321", fine(2)),
-    ("one besides the asking student", FIVE, "14302", fine(1)),
+    ("the largest b of Table 3", TABLE_1, M5, graded(3)),
+    ("n = 0: no pair", NOBODY, "", graded(None)),
+    ("n = 1: the pair is fixed", ONE, "0", graded(None)),
+    ("two by two, student-best", TWO, "01", graded(1)),
+    ("two by two, mentor-best", TWO, "10", graded(1)),
+    ("two alike: both pairs are fixed", SAME, "01", graded(None)),
+    ("one pair of three is fixed", ONE_FIXED, "012", graded(1)),
+    ("between two rotations", TWO_ROTATIONS, "201", graded(1)),
+    ("two besides the asking student", FOUR, "0321", graded(2)),
+    ("one besides the asking student", FIVE, "14302", graded(1)),
     ("edition 0", put(TWO, {0: 0}), "01", refused(2)),
     ("a matching of one byte", TWO, "0", refused(8)),
     ("a mentor twice", TWO, "11", refused(9, 1)),
@@ -117,3 +121,5 @@ CASES = [repair(b, m, q, (len(m), len(m)), reply, new, gains) for _, b, m, q, re
 CASES += [repair(*given) for _, *given in ROOMS]
 CASES += [repair(b, m, q, (room, room), reply) for _, b, m, q, room, reply in REFUSED]
 CASES += [case(GRADE, reply, b, digits(m)) for _, b, m, reply in GRADED]
+# 64 pairs, all fixed
+CASES += [case(GRADE, graded(None), FIRSTS, shift(64, 0))]

@@ -1,9 +1,9 @@
 """Cases of books of edition 2 in which somebody is alone on each side (document 02, W-203): every call.
 
 The expected answers are those of definitions.py, found among all matchings. What the modules beside this one have by
-hand of the same books is held against them, for SHORT_TABLE_1 from the Tables 2 and 3 of document 000. The last three
-books come from a search for lists with many rotations, with pairs of every letter, and with a mentor who is alone above
-one who would be a student's next.
+hand of the same books is held against them, for SHORT_TABLE_1 from the Tables 2 and 3 of document 000. Three books come
+from a search for lists with many rotations, with pairs of every letter, and with a mentor who is alone above one who
+would be a student's next. The last three have one stable matching alone, and so no grade (W-204).
 """
 import itertools
 
@@ -12,7 +12,7 @@ from cases import short_book_calls, short_matching_calls, short_sheet_calls
 from cases.definitions import NOBODY, Market
 from cases.form import CHECK_BOOK, CHECK_MATCHING, GRADE, MATCHING_TO_SET, MENTOR_BEST, MENTOR_LIST, PRECEDES, REPAIR
 from cases.form import ROTATION_COUNT, ROTATIONS, SET_TO_MATCHING, STUDENT_BEST, STUDENT_LIST
-from cases.form import WEIGHTED_GRADE, WEIGHTED_REPAIR, WEIGHTED_SHEET, case, fine, moved, refused
+from cases.form import WEIGHTED_GRADE, WEIGHTED_REPAIR, WEIGHTED_SHEET, case, fine, graded, moved, refused
 from cases.rotation_calls import TABLE_1_LIST
 from cases.sheet_calls import sheet
 
@@ -23,6 +23,10 @@ MARKETS = [
     Market("4302 34210 0241 32 20314 1042 241 01243 4013 4210"),
     Market("43210 2143 1234 34102 4 30 3012 3021 1203 21304"),
     Market("45 20534 0245 5420 451203 50 34512 4 4321 14 12304 215403"),
+    # One student without a mentor; one beside a fixed pair; one between two of them
+    Market("- -"),
+    Market("0 - 0 -"),
+    Market("01 0 1 01 20 -"),
 ]
 WEIGHTS = [7, 30, 1, 200, 0, 3, 1, 255]
 
@@ -80,8 +84,8 @@ def matching_cases(market, b, m):
     """The check, the grade and the sheet of a stable matching, plain and with weights."""
     n, weights = market.n, WEIGHTS[: market.n]
     yield case(CHECK_MATCHING, fine(0), b, [*m])
-    yield case(GRADE, fine(market.grade(m, [1] * n)), b, [*m])
-    yield case(WEIGHTED_GRADE, fine(market.grade(m, weights)), b, [*m], weights)
+    yield case(GRADE, graded(market.grade(m, [1] * n)), b, [*m])
+    yield case(WEIGHTED_GRADE, graded(market.grade(m, weights)), b, [*m], weights)
     yield sheet(b + [*m], market.sheet(m, [1] * n))
     yield sheet(b + [*m] + weights, market.sheet(m, weights), call=WEIGHTED_SHEET)
 

@@ -1,12 +1,13 @@
 """Cases of the calls on books of edition 2 that take a matching or a request (document 02, W-203): 8, 9, 19 and 10 of
-the check, what 255 is in each, and the order of the rules of the other calls.
+the check, what 255 is in each, the order of the rules of the other calls, and the grade where no pair can be repaired
+(W-204).
 
 The expected replies are literals; the blocking pairs of the books SIX and of small ones are found by hand.
 """
-from cases.books import LONE, LONE_TWO, ONE, ONE_SHORT, SIX, TWO, mentors, put, short_book_of
+from cases.books import LONE, LONE_TWO, ONE, ONE_BESIDE, ONE_SHORT, SIX, TWO, mentors, put, short_book_of
 from cases.form import CHECK_MATCHING, GRADE, MATCHING_TO_SET, MENTOR_BEST, REPAIR, SET_TO_MATCHING, STUDENT_BEST
 from cases.form import ROTATION_COUNT, ROTATIONS, WEIGHTED_GRADE, WEIGHTED_REPAIR
-from cases.form import PRECEDES, case, fine, moved, refused
+from cases.form import PRECEDES, case, fine, graded, moved, refused
 
 # Both students list mentor 0 alone, who prefers student 0
 RIVALS = short_book_of("0 0 01 -")
@@ -81,6 +82,15 @@ REQUESTS = [
     ("fixed", [3, 3], moved("F", 0)),
 ]
 
+# No pair can be repaired: (what is tried, bytes of the book, matching, weights)
+NOT_GRADED = [
+    ("n = 0: no pair", [2, 0], "", []),
+    ("n = 1: the pair is fixed", ONE_SHORT, "0", [0]),
+    ("n = 1, alone: no pair", LONE, "-", [9]),
+    ("n = 2, both alone: no pair", LONE_TWO, "--", [0, 0]),
+    ("n = 2, one fixed and one alone", ONE_BESIDE, "0-", [7, 30]),
+]
+
 
 def repairs(b, matching, request, reply, weights=(1,) * 6, room=6):
     """The plain and the weighted case of a repair that writes nothing."""
@@ -99,6 +109,10 @@ for _, m, reply in BAD_MATCHINGS:
     CASES += [case(WEIGHTED_REPAIR, reply, SIX, mentors(m), [1] * 7, [0, 0], room=6, gains_room=6)]
     CASES += [case(WEIGHTED_GRADE, reply, SIX, mentors(m), [1] * 5), case(GRADE, reply, SIX, mentors(m))]
     CASES += [case(MATCHING_TO_SET, reply, SIX, mentors(m), room=room) for room in (0, 1)]
+CASES += [case(GRADE, graded(None), b, mentors(m)) for _, b, m, _ in NOT_GRADED]
+CASES += [case(WEIGHTED_GRADE, graded(None), b, mentors(m), weights) for _, b, m, weights in NOT_GRADED]
+# The two who exchange weigh nothing
+CASES += [case(WEIGHTED_GRADE, graded(0), SIX, BEST, [0, 0, 0, 0, 255, 255])]
 # 17 before 13
 CASES += [case(WEIGHTED_REPAIR, refused(17), SIX, BEST, [1] * 5, [4], room=6, gains_room=6)]
 CASES += [case(WEIGHTED_GRADE, refused(17), SIX, BEST, [1] * 7)]

@@ -1,10 +1,10 @@
 """Cases of the sheet and the weighted sheet of books of edition 2 (document 02, W-203): the line of a student without a
-mentor, how an input is parted, and refusals.
+mentor, who does not count as fixed (W-204), how an input is parted, and refusals.
 
 The expected sheets are literals that follow by hand: of the six, students 0 and 1 exchange and the pairs of 2 and 3 are
 fixed; SHORT_TABLE_1 has the lines of Table 1; of 64 with lists of 8 the matchings are those of `rounds`.
 """
-from cases.books import LONE, LONE_TWO, ONE_SHORT, SHORT_ROUNDS, SHORT_TABLE_1, SIX, TWO
+from cases.books import LONE, LONE_TWO, ONE_BESIDE, ONE_SHORT, SHORT_ROUNDS, SHORT_TABLE_1, SIX, TWO
 from cases.books import mentors, put, shift, short_book_of
 from cases.form import MENTOR_BEST, ROTATION_COUNT, STUDENT_BEST, WEIGHTED_SHEET, case, fine
 from cases.sheet_calls import TABLE_1_SHEET, sheet
@@ -12,25 +12,27 @@ from cases.sheet_calls import TABLE_1_SHEET, sheet
 M, WORST = mentors("0123--"), mentors("1023--")
 M5 = mentors("4563120-")
 ONES = [1] * 6
-SIX_SHEET = ["6 1 1", "0 0 D 2", "1 1 D 2", "2 2 F 0", "3 3 F 0", "4 - N 0", "5 - N 0"]
-SIX_UP = ["6 1 1", "0 1 U 2", "1 0 U 2", *SIX_SHEET[3:]]
-SIX_WEIGHTED = ["6 1 30", "0 0 D 37", "1 1 D 37", *SIX_SHEET[3:]]
-SHORT_TABLE_1_SHEET = ["8 6 3", *TABLE_1_SHEET[1:], "7 - N 0"]
+SIX_SHEET = ["6 1 2 1", "0 0 D 2", "1 1 D 2", "2 2 F 0", "3 3 F 0", "4 - N 0", "5 - N 0"]
+SIX_UP = ["6 1 2 1", "0 1 U 2", "1 0 U 2", *SIX_SHEET[3:]]
+SIX_WEIGHTED = ["6 1 2 30", "0 0 D 37", "1 1 D 37", *SIX_SHEET[3:]]
+SIX_ZERO = ["6 1 2 0", "0 0 D 0", "1 1 D 0", *SIX_SHEET[3:]]
+SHORT_TABLE_1_SHEET = ["8 6 0 3", *TABLE_1_SHEET[1:], "7 - N 0"]
 # Weights 1 1 9 1 1 3 1, as README.md has them for Table 1
-TABLE_1_WEIGHTED = ["8 6 11", "0 4 D 2", "1 5 U 6", "2 6 D 10", "3 3 D 12", "4 1 D 2", "5 2 U 4", "6 0 U 6", "7 - N 0"]
+TABLE_1_TOTALS = ["0 4 D 2", "1 5 U 6", "2 6 D 10", "3 3 D 12", "4 1 D 2", "5 2 U 4", "6 0 U 6"]
 
 # (what is tried, bytes, lines)
 SHEETS = [
-    ("n = 0", [2, 0], ["0 0 0"]),
-    ("n = 1", ONE_SHORT + [0], ["1 0 0", "0 0 F 0"]),
-    ("n = 1, alone", LONE + [255], ["1 0 0", "0 - N 0"]),
-    ("n = 2, both alone", LONE_TWO + [255, 255], ["2 0 0", "0 - N 0", "1 - N 0"]),
+    ("n = 0", [2, 0], ["0 0 0 -"]),
+    ("n = 1", ONE_SHORT + [0], ["1 0 1 -", "0 0 F 0"]),
+    ("n = 1, alone", LONE + [255], ["1 0 0 -", "0 - N 0"]),
+    ("n = 2, both alone", LONE_TWO + [255, 255], ["2 0 0 -", "0 - N 0", "1 - N 0"]),
+    ("n = 2, one fixed and one alone", ONE_BESIDE + [0, 255], ["2 0 1 -", "0 0 F 0", "1 - N 0"]),
     ("six, student-best", SIX + M, SIX_SHEET),
     ("six, mentor-best", SIX + WORST, SIX_UP),
     ("Table 1, shortened", SHORT_TABLE_1 + M5, SHORT_TABLE_1_SHEET),
-    ("two by two, full lists", short_book_of("01 10 10 01") + [0, 1], ["2 1 1", "0 0 D 2", "1 1 D 2"]),
-    ("64, lists of 8, place 0", SHORT_ROUNDS + shift(64, 0), ["64 7 63"] + [f"{i} {i} D 64" for i in range(64)]),
-    ("64, place 7", SHORT_ROUNDS + shift(64, 7), ["64 7 63"] + [f"{i} {(i + 7) % 64} U 64" for i in range(64)]),
+    ("two by two, full lists", short_book_of("01 10 10 01") + [0, 1], ["2 1 0 1", "0 0 D 2", "1 1 D 2"]),
+    ("64, lists of 8, place 0", SHORT_ROUNDS + shift(64, 0), ["64 7 0 63"] + [f"{i} {i} D 64" for i in range(64)]),
+    ("64, place 7", SHORT_ROUNDS + shift(64, 7), ["64 7 0 63"] + [f"{i} {(i + 7) % 64} U 64" for i in range(64)]),
     # The book's rules
     ("six, the directory does not fit", SIX[:49], ["refused 1"]),
     ("six, 69 bytes", SIX[:69], ["refused 1"]),
@@ -66,11 +68,15 @@ SHEETS = [
 
 # The weighted sheet
 WEIGHTED = [
-    ("n = 0", [2, 0], ["0 0 0"]),
-    ("n = 1, alone", LONE + [255, 9], ["1 0 0", "0 - N 0"]),
+    ("n = 0", [2, 0], ["0 0 0 -"]),
+    ("n = 1", ONE_SHORT + [0, 0], ["1 0 1 -", "0 0 F 0"]),
+    ("n = 1, alone", LONE + [255, 9], ["1 0 0 -", "0 - N 0"]),
+    ("n = 2, both alone", LONE_TWO + [255, 255, 0, 0], ["2 0 0 -", "0 - N 0", "1 - N 0"]),
+    ("n = 2, one fixed and one alone", ONE_BESIDE + [0, 255, 7, 30], ["2 0 1 -", "0 0 F 0", "1 - N 0"]),
+    ("six: only those who are alone weigh something", SIX + M + [0, 0, 0, 0, 255, 255], SIX_ZERO),
     ("six: those who are alone weigh most", SIX + M + [7, 30, 1, 1, 255, 255], SIX_WEIGHTED),
     ("six, all 1", SIX + WORST + ONES, SIX_UP),
-    ("Table 1, shortened", SHORT_TABLE_1 + M5 + [1, 1, 9, 1, 1, 3, 1, 255], TABLE_1_WEIGHTED),
+    ("Table 1, shortened", SHORT_TABLE_1 + M5 + [1, 1, 9, 1, 1, 3, 1, 255], ["8 6 0 11", *TABLE_1_TOTALS, "7 - N 0"]),
     ("six, 69 bytes", SIX[:69], ["refused 1"]),
     ("the last offset is 0", put(SIX + M + ONES, {46: 0}), ["refused 5"]),
     ("a mentor's entry is not returned", short_book_of("- 0") + [255, 1], ["refused 18"]),
@@ -86,7 +92,7 @@ WEIGHTED = [
 CASES = [sheet(given, lines) for _, given, lines in SHEETS]
 CASES += [sheet(given, lines, call=WEIGHTED_SHEET) for _, given, lines in WEIGHTED]
 # 14: the room is one byte too few, and exact
-CASES += [sheet(SIX + M, [], 53), sheet(SIX + M, SIX_SHEET, 54)]
+CASES += [sheet(SIX + M, [], 55), sheet(SIX + M, SIX_SHEET, 56)]
 # The extremes and the number of rotations of 64 with lists of 8
 CASES += [case(STUDENT_BEST, fine(64), SHORT_ROUNDS, room=64, out=shift(64, 0))]
 CASES += [case(MENTOR_BEST, fine(64), SHORT_ROUNDS, room=64, out=shift(64, 7))]

@@ -4,10 +4,12 @@ The expected replies and buffers are literals. For Table 1 of document 000 and i
 its Tables 2 and 3: repair up of students 0 and 5 moves 0 and 5, of 1 and 6 it moves 0, 1, 5 and 6; repair down of 0
 and 4 moves 0 and 4, of 2 and 6 it moves 2 and 6, of 1 and 3 it moves 1, 2, 3 and 6; the others have no such repair.
 For the small books of document 01 and for `rounds`, in which every repair moves all, they follow by hand too. For the
-books FOUR and FIVE they are those of tests/listing.
+books FOUR and FIVE they are those of tests/listing. Where no pair can be repaired there is no grade; else a grade of 0
+is a number (W-204).
 """
-from cases.books import M5, NOBODY, ONE, ROUNDS, SAME, TABLE_1, TWO, digits, put, shift
-from cases.form import WEIGHTED_GRADE, WEIGHTED_REPAIR, case, fine, moved, refused
+from cases.books import FIRSTS, M5, NOBODY, ONE, ONE_FIXED, ROUNDS, SAME, TABLE_1, TWO, TWO_ROTATIONS
+from cases.books import digits, put, shift
+from cases.form import WEIGHTED_GRADE, WEIGHTED_REPAIR, case, graded, moved, refused
 from cases.repair_calls import FIVE, FOUR
 
 M = digits(M5)
@@ -20,6 +22,9 @@ EQUAL = [1, 2, 6, 0, 1, 3, 9]
 HEAVY = [1, 1, 255, 1, 1, 1, 1]
 # The largest total, that of student 3, is his own weight; the largest without the asking student is that of student 1
 OWN = [100, 0, 0, 255, 0, 100, 0]
+# Three students between two rotations: repair up of 0 and 2 moves both and weighs 1, repair down of 1 and 2 moves both
+# and weighs 0. Student 0 has no repair down and student 1 none up. The grade is 0: the weight of student 0 is his own
+BETWEEN, FIRST = [2, 0, 1], [1, 0, 0]
 # The mentors in each repair of Table 1 and the places gained
 UP_0, UP_1 = ("2563140", [1, 0, 0, 0, 0, 1, 0]), ("2463105", [1, 1, 0, 0, 0, 4, 1])
 DOWN_0, DOWN_2 = ("1563420", [-1, 0, 0, 0, -4, 0, 0]), ("4503126", [0, 0, -1, 0, 0, 0, -1])
@@ -48,6 +53,10 @@ REPAIRED = [
     ("two alike: fixed", SAME, "01", [7, 9], [1, 1], moved("F", 0), NONE),
     ("two by two: down", TWO, "01", [255, 255], [0, 0], moved("D", 510), ("10", [-1, -1])),
     ("two by two: up", TWO, "10", [0, 7], [1, 0], moved("U", 7), ("01", [1, 1])),
+    # Between two rotations
+    ("up 1, his own", TWO_ROTATIONS, "201", FIRST, [0, 2], moved("U", 1), ("102", [1, 0, 1])),
+    ("down 0", TWO_ROTATIONS, "201", FIRST, [1, 0], moved("D", 0), ("210", [0, -1, -1])),
+    ("up 1, down 0", TWO_ROTATIONS, "201", FIRST, [2, 1], moved("D", 0), ("210", [0, -1, -1])),
     # Up moves more and weighs less; up moves all five, down two, and both weigh 12
     ("up 3, down 10", FOUR, "0321", [9, 1, 1, 1], [1, 3], moved("U", 3), ("0213", [0, 1, 1, 1])),
     ("up moves five", FIVE, "14302", [0, 0, 5, 0, 7], [2, 3], moved("U", 12), ("32014", [3, 2, 1, 1, 1])),
@@ -112,16 +121,21 @@ REFUSED = [
 
 # The grade: (what is tried, bytes of the book, matching, weights, reply)
 GRADED = [
-    ("student 3: 310 less 40", TABLE_1, M, TURNED, fine(270)),
-    ("student 3: 258 less 1", TABLE_1, M, HEAVY, fine(257)),
-    ("student 1: 200 less 0", TABLE_1, M, OWN, fine(200)),
-    ("all 1: as without weights", TABLE_1, M, [1] * 7, fine(3)),
-    ("all 0", TABLE_1, M, [0] * 7, fine(0)),
-    ("n = 0", NOBODY, [], [], fine(0)),
-    ("n = 1", ONE, [0], [255], fine(0)),
-    ("two alike", SAME, [0, 1], [7, 9], fine(0)),
-    ("two by two: 262 less 7", TWO, [0, 1], [255, 7], fine(255)),
-    ("64 rounds: 64 times 255 less 255", ROUNDS, shift(64, 40), [255] * 64, fine(16065)),
+    ("student 3: 310 less 40", TABLE_1, M, TURNED, graded(270)),
+    ("student 3: 258 less 1", TABLE_1, M, HEAVY, graded(257)),
+    ("student 1: 200 less 0", TABLE_1, M, OWN, graded(200)),
+    ("all 1: as without weights", TABLE_1, M, [1] * 7, graded(3)),
+    ("all 0", TABLE_1, M, [0] * 7, graded(0)),
+    ("student 0: 1 less 1", TWO_ROTATIONS, BETWEEN, FIRST, graded(0)),
+    ("one pair of three is fixed, all 0", ONE_FIXED, [0, 1, 2], [0, 0, 0], graded(0)),
+    ("one pair of three is fixed and heavy", ONE_FIXED, [1, 0, 2], [3, 5, 255], graded(5)),
+    ("n = 0: no pair", NOBODY, [], [], graded(None)),
+    ("n = 1: the pair is fixed", ONE, [0], [255], graded(None)),
+    ("n = 1: the pair is fixed, weight 0", ONE, [0], [0], graded(None)),
+    ("two alike: both pairs are fixed", SAME, [0, 1], [7, 9], graded(None)),
+    ("two by two: 262 less 7", TWO, [0, 1], [255, 7], graded(255)),
+    ("64 rounds: 64 times 255 less 255", ROUNDS, shift(64, 40), [255] * 64, graded(16065)),
+    ("64 firsts: all pairs are fixed", FIRSTS, shift(64, 0), [255] * 64, graded(None)),
     ("edition 0", put(TWO, {0: 0}), [0, 1], [1, 1], refused(2)),
     ("a matching of one byte", TWO, [0], [1, 1], refused(8)),
     ("a mentor twice", TWO, [1, 1], [1, 1], refused(9, 1)),

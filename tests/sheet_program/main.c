@@ -28,17 +28,17 @@ static const struct kind {
     size_t most;         /* bytes that it reads */
     size_t parts;        /* of n bytes each, after the book */
     const char *wrong;   /* what it prints where the last part is too short or too long */
-    const char *grade;   /* cyclic lists of 64, weights of 255: the end of the first line, and of every other */
+    const char *grade;   /* cyclic lists of 64, weights of 255: the grade, and the end of every other line */
     const char *tail;
     const char *table_1; /* Table 1 with M5, weights of 1 1 9 1 1 3 1 (tests/c/test_weights.c) */
     const char *six;     /* the six short lists, student-best, weights of 7 30 1 1 255 255 */
 } kinds[2] = {
     {"plain", 8771, 1, "refused 8\n", "63", "D 64",
-     "7 6 3\n0 4 U 2\n1 5 U 4\n2 6 D 2\n3 3 D 4\n4 1 D 2\n5 2 U 2\n6 0 D 2\n",
-     "6 1 1\n0 0 D 2\n1 1 D 2\n2 2 F 0\n3 3 F 0\n4 - N 0\n5 - N 0\n"},
+     "7 6 0 3\n0 4 U 2\n1 5 U 4\n2 6 D 2\n3 3 D 4\n4 1 D 2\n5 2 U 2\n6 0 D 2\n",
+     "6 1 2 1\n0 0 D 2\n1 1 D 2\n2 2 F 0\n3 3 F 0\n4 - N 0\n5 - N 0\n"},
     {"weighted", 8835, 2, "refused 17\n", "16065", "D 16320",
-     "7 6 11\n0 4 D 2\n1 5 U 6\n2 6 D 10\n3 3 D 12\n4 1 D 2\n5 2 U 4\n6 0 U 6\n",
-     "6 1 30\n0 0 D 37\n1 1 D 37\n2 2 F 0\n3 3 F 0\n4 - N 0\n5 - N 0\n"},
+     "7 6 0 11\n0 4 D 2\n1 5 U 6\n2 6 D 10\n3 3 D 12\n4 1 D 2\n5 2 U 4\n6 0 U 6\n",
+     "6 1 2 30\n0 0 D 37\n1 1 D 37\n2 2 F 0\n3 3 F 0\n4 - N 0\n5 - N 0\n"},
 };
 
 static const struct kind *kind;
@@ -167,7 +167,7 @@ static void cyclic(struct book book, int rotations)
 {
     static char due[1024];
     uint8_t same[64], weights[64];
-    int length = snprintf(due, sizeof due, "64 %d %s\n", rotations, kind->grade);
+    int length = snprintf(due, sizeof due, "64 %d 0 %s\n", rotations, kind->grade);
     for (int i = 0; i < 64; i++) {
         same[i] = (uint8_t)i;
         weights[i] = 255;
@@ -216,7 +216,7 @@ static void short_lists(void)
 static void small(void)
 {
     static const uint8_t weights[7] = {1, 1, 9, 1, 1, 3, 1};
-    struct book table_1 = book_of(7, table_1_lists), nobody = book_of(0, "");
+    struct book table_1 = book_of(7, table_1_lists), nobody = book_of(0, ""), one = book_of(1, "00");
     prints(input_of(table_1, table_1_m5, weights, whole(table_1)), kind->table_1);
     prints(input_of(table_1, table_1_m5, weights, 162), "refused 8\n");
     prints(input_of(table_1, table_1_m5, weights, whole(table_1) - 1), kind->wrong);
@@ -225,8 +225,9 @@ static void small(void)
     prints(input_of(with(table_1, 0, 3), table_1_m5, weights, LONGEST_INPUT), "refused 2\n");
     prints(input_of(with(table_1, 1, 65), table_1_m5, weights, LONGEST_INPUT), "refused 3\n");
     prints(input_of(with(table_1, 155, 7), table_1_m5, weights, LONGEST_INPUT), "refused 6\n");
-    prints(input_of(nobody, table_1_m5, weights, 2), "0 0 0\n");
+    prints(input_of(nobody, table_1_m5, weights, 2), "0 0 0 -\n");
     prints(input_of(nobody, table_1_m5, weights, LONGEST_INPUT), kind->wrong);
+    prints(input_of(one, six_best, weights, whole(one)), "1 0 1 -\n0 0 F 0\n");
     prints(input_of(table_1, table_1_m5, weights, 0), "refused 1\n");
 }
 
