@@ -11,19 +11,14 @@ use Rattle.laws.specs.First.{some}
 use Rattle.laws.specs.Values.{vec}
 use Rattle.format.specs.Record.{Record}
 use Rattle.stable_theory.specs.Stable.Market.{Market}
-use Rattle.stable_theory.specs.Repairs.Answer.{Answer, U, D, F, answerOf}
+use Rattle.stable_theory.specs.Repairs.Answer.{answerOf}
 use Rattle.stable_theory.specs.Rotations.Numbering.{total}
 use Rattle.matchings.specs.declared.places.Places.{Places}
 use Rattle.instances.specs.Usable.{marketIn}
+use Rattle.repairs.specs.Repair.{letterByte}
 use Rattle.repairs.specs.Grade.{GradeAnswer, graded, allFixed, gradeAnswer}
 use Rattle.nearest.specs.Nearest.{farOf, gradeIn}
 use Rattle.pair_answers.specs.declared.answers.Summary.{Summary}
-
--- The letter of an answer as a byte: U, D or F
-abbrev pub letterByte : Answer → ℕ
-letterByte (U v) = 85
-letterByte (D v) = 68
-letterByte F = 70
 
 -- At index s the two lists have the letter and the distance of the answer for the pair of s, F and 0 where he has none
 pub record AnswerAt (I : Market) (c p : ℕ → ℕ) (letters distances : List ℕ) (s : ℕ) : Type 0 where

@@ -18,7 +18,7 @@ use Rattle.format.specs.Outcome.{Outcome, gives}
 use Rattle.format.specs.Format.{largest, people, nobody, pairRow}
 use Rattle.matchings.specs.Matching.{manRank, checkMatching, womanOf}
 use Rattle.repairs.specs.Weights.{movedWeight}
-use Rattle.repairs.specs.Repair.{RepairAnswer, up, down, fixed}
+use Rattle.repairs.specs.Repair.{RepairAnswer, up, down}
 
 -- Student s and his mentor are a pair of m: a student without a mentor is in none
 pub record PairIn (b m : List ℕ) (s : ℕ) : Type 0 where

@@ -28,6 +28,12 @@ gainsOf b m r = values (λ i. less (manRank b i (womanOf m i)) (manRank b i (wom
 abbrev pub answerFor : List ℕ → (ℕ → ℕ) → List ℕ → ℕ → Answer
 answerFor b c m s = answerOf (market b) c (vectorOf b m) s
 
+-- The letter of an answer, as a byte: U up, D down, F fixed
+abbrev pub letterByte : Answer → ℕ
+letterByte (U v) = 85
+letterByte (D v) = 68
+letterByte F = 70
+
 -- The answer as document 01 gives it: up or down with the distance, or fixed
 pub data RepairAnswer : Type 0 where
   up : ℕ → RepairAnswer

@@ -14,7 +14,8 @@ ghost use Rattle.format.specs.Verdict.{verdictOf};
 ghost use Rattle.repairs.specs.Grade.{gradeAnswer, gradeOutcome};
 ghost use Rattle.repairs.specs.Repair.{repairOutcome};
 ghost use Rattle.rotations.specs.Precedence.{precedenceOutcome};
-ghost use Rattle.replies.specs.Replies.{granted, denied, lettered, numberReply, gradeValue, gradedReply, yesNoReply, letterReply, replyFor};
+ghost use Rattle.replies.specs.Replies.{granted, denied, lettered, replyFor};
+ghost use Rattle.replies.specs.Replies.{numberReply, gradeValue, gradedReply, yesNoReply, letterReply};
 
 // Nothing is refused.
 fn granted_reply(place: usize, value: usize) -> Reply

@@ -14,13 +14,13 @@ use Rattle.format.specs.Record.{Record}
 use Rattle.matchings.specs.declared.places.Places.{Places}
 use Rattle.matchings.specs.Matching.{womanOf}
 use Rattle.instances.specs.Usable.{marketIn}
+use Rattle.repairs.specs.Repair.{letterByte}
 use Rattle.nearest.specs.Nearest.{farOf, gradeIn}
 use Rattle.sheets.specs.Line.{topLine, studentLines}
-use Rattle.sheets.specs.Sheet.{letterOf}
 
 -- The letter and the distance of the answer for s, over a market and a place vector, c i being the weight of man i
 abbrev pub letterIn : Market → (ℕ → ℕ) → (ℕ → ℕ) → ℕ → ℕ
-letterIn I c p s = letterOf (answerOf I c p s)
+letterIn I c p s = letterByte (answerOf I c p s)
 
 abbrev pub distanceIn : Market → (ℕ → ℕ) → (ℕ → ℕ) → ℕ → ℕ
 distanceIn I c p s = farOf I c p (answerOf I c p s)

@@ -17,7 +17,8 @@ ghost use Rattle.laws.specs.Values.{vec};
 ghost use Rattle.format.specs.Verdict.{verdictOf};
 ghost use Rattle.format.specs.Format.{entryIn};
 ghost use Rattle.repairs.specs.Grade.{gradeAnswer};
-ghost use Rattle.sheets.specs.Line.{lineFeed, gradeField, topLine, pairLine, aloneLine, studentLine, studentLines, refusalLine, refusedLine};
+ghost use Rattle.sheets.specs.Line.{lineFeed, gradeField, topLine, pairLine, aloneLine};
+ghost use Rattle.sheets.specs.Line.{studentLine, studentLines, refusalLine, refusedLine};
 ghost use Rattle.sheet_text.specs.Put.{Put, FiveDigits, ShortGrade, LinesGiven};
 
 // The grade and the end of its line: its number, or `-` where no pair can be repaired.

@@ -9,7 +9,7 @@ use Rattle.matchings.specs.Matching.{checkMatching, womanOf}
 use Rattle.matchings.specs.Extreme.{matchingOf}
 use Rattle.rotations.specs.RotationList.{rotationCount}
 use Rattle.repairs.specs.Weights.{weightOf, checkWeighed, movedWeight}
-use Rattle.repairs.specs.Repair.{answerFor}
+use Rattle.repairs.specs.Repair.{answerFor, letterByte}
 use Rattle.repairs.specs.Grade.{fixedCount, gradeOf}
 use Rattle.sheets.specs.Line.{topLine, studentLines, refusalLine}
 
@@ -28,12 +28,6 @@ weighedPart input = take (people input) (matchingPart input)
 abbrev pub weightsPart : List ℕ → List ℕ
 weightsPart input = drop (people input) (matchingPart input)
 
--- The letter of an answer: U up, D down, F fixed
-abbrev pub letterOf : Answer → ℕ
-letterOf (U v) = 85
-letterOf (D v) = 68
-letterOf F = 70
-
 -- The distance of an answer for the matching m of the book b, 0 for F: the total weight of the students moved, c i
 -- being that of student i
 abbrev pub distanceOf : List ℕ → (ℕ → ℕ) → List ℕ → Answer → ℕ
@@ -45,7 +39,7 @@ distanceOf b c m F = 0
 unfoldable pub answers : List ℕ → (ℕ → ℕ) → List ℕ → List ℕ
 answers b c m =
     topLine (people b) (rotationCount b) (fixedCount b c m) (gradeOf b c m)
-    ++ studentLines (womanOf m) (λ s. letterOf (answerFor b c m s)) (λ s. distanceOf b c m (answerFor b c m s)) (people b)
+    ++ studentLines (womanOf m) (λ s. letterByte (answerFor b c m s)) (λ s. distanceOf b c m (answerFor b c m s)) (people b)
 
 -- It goes on to repairs only where the check refused nothing; otherwise it is the line of the refusal
 abbrev pub sheetAfter : Verdict → List ℕ → (ℕ → ℕ) → List ℕ → List ℕ

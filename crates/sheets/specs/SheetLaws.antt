@@ -24,7 +24,7 @@ use Rattle.matchings.specs.Laws.StableCheck.{fine-stable}
 use Rattle.matchings.specs.Laws.StableVector.{vector-stable}
 use Rattle.rotations.specs.RotationList.{rotationCount}
 use Rattle.repairs.specs.Weights.{weightOf, checkWeighed}
-use Rattle.repairs.specs.Repair.{RepairAnswer, up, down, fixed, answerFor, withDistance, entriesFor, matchingFor}
+use Rattle.repairs.specs.Repair.{RepairAnswer, up, down, fixed, answerFor, letterByte, withDistance, entriesFor, matchingFor}
 use Rattle.repairs.specs.Grade.{fixedCount, GradeAnswer, graded, gradeOf}
 use Rattle.repairs.specs.Promise.{PairIn, InEvery, FixedPair, NotAllFixed, HowMany, Takes, Lightest, Covers}
 use Rattle.repairs.specs.Laws.RepairBytes.{holds}
@@ -34,7 +34,7 @@ use Rattle.repairs.specs.Laws.GradeBytes.{number-iff, grade-covers, grade-least
 use Rattle.sheets.specs.Decimal.{decimal}
 use Rattle.sheets.specs.Line.{topLine, pairLine, studentLine, studentLines, refusalLine}
 use Rattle.sheets.specs.LineLaws.{pair-text, alone-text}
-use Rattle.sheets.specs.Sheet.{bookPart, matchingPart, weighedPart, weightsPart, letterOf, distanceOf, answers, sheetAfter, sheetOf, weightedSheetOf}
+use Rattle.sheets.specs.Sheet.{bookPart, matchingPart, weighedPart, weightsPart, distanceOf, answers, sheetAfter, sheetOf, weightedSheetOf}
 
 -- A letter and a distance say an answer: U or D with the distance of the repair, F with 0
 pub data Says : ℕ → ℕ → RepairAnswer → Type 0 where
@@ -81,7 +81,7 @@ pub record RightSheet (b : List ℕ) (c : ℕ → ℕ) (m : List ℕ) (sheet : L
   pub least : {g : ℕ} → grade ≡ graded g → (h : ℕ) → Covers b c m h → g ≤ h
 
 -- the letter and the distance of an answer say it
-answer-says : (b : List ℕ) (c : ℕ → ℕ) (m : List ℕ) (a : Answer) → Says (letterOf a) (distanceOf b c m a) (withDistance b c m a)
+answer-says : (b : List ℕ) (c : ℕ → ℕ) (m : List ℕ) (a : Answer) → Says (letterByte a) (distanceOf b c m a) (withDistance b c m a)
 answer-says b c m (U v) = says-up _
 answer-says b c m (D v) = says-down _
 answer-says b c m F = says-fixed
@@ -89,7 +89,7 @@ answer-says b c m F = says-fixed
 -- so the line of a pair is right
 pair-right :
     {b m : List ℕ} → StableIn b m → (c : ℕ → ℕ) {s : ℕ} → PairIn b m s →
-    RightLine b c m s (letterOf (answerFor b c m s)) (distanceOf b c m (answerFor b c m s))
+    RightLine b c m s (letterByte (answerFor b c m s)) (distanceOf b c m (answerFor b c m s))
 pair-right {b} {m} S c {s} P =
     let W = S .matching .formed in
     let A = answer-of (market-proper W) c (vector-stable S) (holds S P) in
@@ -116,7 +116,7 @@ answers-lines :
     (b : List ℕ) (c : ℕ → ℕ) (m : List ℕ) →
     answers b c m
     ≡ topLine (people b) (rotationCount b) (fixedCount b c m) (gradeOf b c m)
-    ++ studentLines (womanOf m) (λ s. letterOf (answerFor b c m s)) (λ s. distanceOf b c m (answerFor b c m s)) (people b)
+    ++ studentLines (womanOf m) (λ s. letterByte (answerFor b c m s)) (λ s. distanceOf b c m (answerFor b c m s)) (people b)
 unfolding answers
 answers-lines b c m = refl
 
@@ -127,7 +127,7 @@ right b c m f e =
     record {
       fixed-pairs = fixedCount b c m;
       grade = gradeOf b c m;
-      letter = λ s. letterOf (answerFor b c m s);
+      letter = λ s. letterByte (answerFor b c m s);
       distance = λ s. distanceOf b c m (answerFor b c m s);
       text = ap (λ (v : Verdict). sheetAfter v b c m) e ∙ answers-lines b c m;
       numbered = rotations-canonical (market-proper (S .matching .formed));

@@ -12,12 +12,12 @@ use Rattle.stable_theory.specs.Repairs.Answer.{Answer, U, D, F}
 use Rattle.matchings.specs.Matching.{checkMatching}
 use Rattle.matchings.specs.Extreme.{matchingOf}
 use Rattle.rotations.specs.RotationList.{rotationCount}
-use Rattle.repairs.specs.Repair.{answerFor}
+use Rattle.repairs.specs.Repair.{answerFor, letterByte}
 use Rattle.repairs.specs.Laws.SameWeights.{moved-same, answer-same, fixed-same, grade-same, after-same}
 use Rattle.repairs.specs.Laws.UnitWeights.{UnitWeights, unit-ones, unit-weighed, cut-weighed, cut-read}
 use Rattle.sheets.specs.Line.{topLine}
 use Rattle.sheets.specs.LineLaws.{lines-same}
-use Rattle.sheets.specs.Sheet.{bookPart, matchingPart, weighedPart, weightsPart, letterOf, distanceOf, answers, sheetAfter, sheetFor, weightedSheetFor, sheetOf, weightedSheetOf}
+use Rattle.sheets.specs.Sheet.{bookPart, matchingPart, weighedPart, weightsPart, distanceOf, answers, sheetAfter, sheetFor, weightedSheetFor, sheetOf, weightedSheetOf}
 
 -- Weights c and d of the students of a book that agree
 module _ (b : List ℕ) {c d : ℕ → ℕ} (e : (i : ℕ) → i < people b → c i ≡ d i) (m : List ℕ) where
@@ -34,7 +34,7 @@ module _ (b : List ℕ) {c d : ℕ → ℕ} (e : (i : ℕ) → i < people b → 
       (lines-same (people b)
       (λ s u. (
         refl,
-        ap letterOf (answer-same b e m s),
+        ap letterByte (answer-same b e m s),
         distance-same (answerFor b c m s) ∙ ap (distanceOf b d m) (answer-same b e m s),
       )))
 

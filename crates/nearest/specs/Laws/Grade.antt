@@ -1,10 +1,10 @@
--- The grade over the record of a book is that of the book. Assumes nothing.
+-- Answers that are the same have one letter and one weight, and so the grade over the record of a book is that of the
+-- book. Assumes nothing.
 use Prim.Native.Nat.{ℕ, _-_, _≤_, _<_}
-use mathlib.Core.Path.{_≡_, refl, _∙_, ap, ap₂}
-use mathlib.Core.Bool.{Bool, not}
+use mathlib.Core.Path.{_≡_, refl, sym, _∙_, ap}
 use native.Mathlib.Omega.{arith}
-use Rattle.laws.specs.Choice.{pick, split}
-use Rattle.laws.specs.First.{some, some-cong}
+use lib.Dec.{eqb}
+use Rattle.laws.specs.Choice.{split}
 use Rattle.laws.specs.Maximum.{maximum, maximum-same}
 use Rattle.stable_theory.specs.Stable.Market.{Market, Proper}
 use Rattle.stable_theory.specs.Stable.Vector.{Stable}
@@ -14,25 +14,37 @@ use Rattle.stable_theory.specs.Repairs.Moves.{weight-same}
 use Rattle.stable_theory.specs.Repairs.Answer.{Answer, U, D, F, answerOf, SameAnswer, same-up, same-down, same-fixed, cost, robustness}
 use Rattle.stable_theory.specs.Repairs.AnswerAlike.{weight-alike, answer-alike}
 use Rattle.stable_theory.specs.Repairs.RobustLaws.{all-answers}
-use Rattle.repairs.specs.Grade.{isFixed, graded, allFixed, gradeBy}
+use Rattle.repairs.specs.Repair.{letterByte}
+use Rattle.repairs.specs.Grade.{isFixed, gradeBy}
+use Rattle.repairs.specs.Laws.GradeBytes.{grade-by-same}
 use Rattle.nearest.specs.Nearest.{farOf, costs, gradeIn}
 
--- the same answer counts the same
+-- the same answer has the same letter
+pub letter-same : {I : Market} {a b : Answer} → SameAnswer I a b → letterByte a ≡ letterByte b
+letter-same (same-up e) = refl
+letter-same (same-down e) = refl
+letter-same same-fixed = refl
+
+-- which is F exactly where the answer is
+pub letter-fixed : (a : Answer) → eqb (letterByte a) 70 ≡ isFixed a
+letter-fixed (U v) = refl
+letter-fixed (D v) = refl
+letter-fixed F = refl
+
+-- and counts the same
 pub far-same : {I : Market} (c p : ℕ → ℕ) {a b : Answer} → SameAnswer I a b → farOf I c p a ≡ farOf I c p b
 far-same {I} c p (same-up {u} {v} e) = weight-same I c p u v e
 far-same {I} c p (same-down {u} {v} e) = weight-same I c p u v e
 far-same c p same-fixed = refl
 
--- and so is whether it is fixed
-pub fixed-same : {I : Market} {a b : Answer} → SameAnswer I a b → isFixed a ≡ isFixed b
-fixed-same (same-up e) = refl
-fixed-same (same-down e) = refl
-fixed-same same-fixed = refl
-
 pub far-alike : {I J : Market} (A : Alike I J) (c : ℕ → ℕ) {p q : ℕ → ℕ} (e : Same I p q) (a : Answer) → farOf I c p a ≡ farOf J c q a
 far-alike A c e (U v) = weight-alike A e c v v (λ i u. refl)
 far-alike A c e (D v) = weight-alike A e c v v (λ i u. refl)
 far-alike A c e F = refl
+
+-- and so it is fixed or not
+fixed-same : {I : Market} {a b : Answer} → SameAnswer I a b → isFixed a ≡ isFixed b
+fixed-same {a = a} {b = b} S = sym (letter-fixed a) ∙ ap (λ (l : ℕ). eqb l 70) (letter-same S) ∙ letter-fixed b
 
 -- the cost of an answer is the weight of those whom it moves less that of s
 cost-far : (I : Market) (c p : ℕ → ℕ) (s : ℕ) (a : Answer) → farOf I c p a - c s ≡ cost I c p s a
@@ -64,9 +76,6 @@ module _ {I J : Market} (M : Proper I) (N : Proper J) (A : Alike I J) (c : ℕ �
 
   -- and the grade over one is that in the other
   pub grade-alike : gradeIn I c p ≡ gradeBy (J .proposers .size) (answerOf J c q) (robustness J c q (answerOf J c q))
-  unfolding gradeBy
   grade-alike =
-      ap₂ (λ (t : Bool) (g : ℕ). pick t (graded g) allFixed)
-      (some-cong {k = I .proposers .size} (λ s u. ap not (fixed-same (answer-each u)))
-      ∙ ap (some (λ s. not (isFixed (answerOf J c q s)))) (A .proposing .size))
-      costs-alike
+      grade-by-same (I .proposers .size) (answerOf I c p) (answerOf J c q) (λ s u. fixed-same (answer-each u)) costs-alike
+      ∙ ap (λ (n : ℕ). gradeBy n (answerOf J c q) (robustness J c q (answerOf J c q))) (A .proposing .size)

@@ -1,7 +1,7 @@
--- From the groups and what is measured of them to the answer for each pair, and the grade from the distances. Assumes
--- nothing.
+-- From the groups and what is measured of them to the answer for each pair, and the grade from the letters and
+-- distances. Assumes nothing.
 use Prim.Native.Nat.{ℕ, _-_, _≤_, _<_}
-use mathlib.Core.Path.{_≡_, refl, sym, _∙_, ap, ap₂}
+use mathlib.Core.Path.{_≡_, sym, _∙_, ap, ap₂}
 use mathlib.Core.Bool.{Bool, true, false, not}
 use mathlib.Core.List.{List}
 use native.Mathlib.Omega.{arith}
@@ -15,33 +15,21 @@ use Rattle.laws.specs.Values.{vec}
 use Rattle.format.specs.Record.{Record}
 use Rattle.stable_theory.specs.Stable.Market.{Market}
 use Rattle.stable_theory.specs.Repairs.Repair.{IsDown, IsUp, weight}
-use Rattle.stable_theory.specs.Repairs.Answer.{Answer, U, D, F, answerOf, SameAnswer, same-up, same-down, same-fixed}
+use Rattle.stable_theory.specs.Repairs.Answer.{answerOf}
 use Rattle.matchings.specs.declared.places.Places.{Places}
 use Rattle.instances.specs.Usable.{marketIn}
 use Rattle.repairs.specs.declared.answer.Grade.{Grade}
-use Rattle.repairs.specs.Grade.{isFixed, graded, allFixed, gradeBy, gradeAnswer}
+use Rattle.repairs.specs.Grade.{graded, allFixed, gradeBy, gradeAnswer}
 use Rattle.nearest.specs.Tried.{noRepair, Distant}
 use Rattle.nearest.specs.Nearest.{GivenIn, BothWeighed, costs, gradeIn}
 use Rattle.nearest.specs.Laws.Tried.{answers-down, answers-up, answers-fixed, right}
-use Rattle.nearest.specs.Laws.Grade.{far-same}
+use Rattle.nearest.specs.Laws.Grade.{letter-same, letter-fixed, far-same}
 use Rattle.nearest.specs.Laws.Nearest.{weight-below}
 use Rattle.pair_groups.specs.declared.groups.Groups.{Groups}
 use Rattle.pair_groups.specs.Groups.{GroupsOf}
 use Rattle.pair_measures.specs.Measured.{leadFar, BothMeasured, Filled}
 use Rattle.pair_measures.specs.Laws.Leads.{lead-distant, lead-most}
-use Rattle.pair_answers.specs.Answered.{letterByte, AnswerAt, gradeFrom, PairsAnswered}
-
--- the same answer has the same letter
-letter-same : {I : Market} {a b : Answer} → SameAnswer I a b → letterByte a ≡ letterByte b
-letter-same (same-up e) = refl
-letter-same (same-down e) = refl
-letter-same same-fixed = refl
-
--- and is `F` exactly where the answer is
-letter-fixed : (a : Answer) → eqb (letterByte a) 70 ≡ isFixed a
-letter-fixed (U v) = refl
-letter-fixed (D v) = refl
-letter-fixed F = refl
+use Rattle.pair_answers.specs.Answered.{AnswerAt, gradeFrom, PairsAnswered}
 
 -- The grade by a test: the number where it passes, and otherwise that all are fixed
 module _ {found test : Bool} (e : found ≡ test) where

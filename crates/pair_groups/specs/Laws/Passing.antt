@@ -19,7 +19,7 @@ use Rattle.format.specs.Record.{Record}
 use Rattle.matchings.specs.declared.places.Places.{Places}
 use Rattle.instances.specs.Usable.{Usable, marketIn}
 use Rattle.extremes.specs.Places.{PlacesIn}
-use Rattle.rotation_pass.specs.Groups.{Led, NotLed, Grouped}
+use Rattle.rotation_pass.specs.Groups.{Grouped}
 use Rattle.rotation_pass.specs.Pass.{Start, SlicesSized, slicesOf}
 
 -- four zeros for each man

@@ -1,21 +1,21 @@
 -- The grade of a book and a matching, of bytes: a number exactly where some pair is not fixed, and then the least that
 -- covers every such pair. Assumes nothing.
 use Prim.Native.Nat.{ℕ, _≤_, _<_}
-use mathlib.Core.Path.{_≡_, refl, sym, subst, _∙_, ap}
-use mathlib.Core.Bool.{Bool, true, false, not}
+use mathlib.Core.Path.{_≡_, refl, sym, subst, _∙_, ap, ap₂}
+use mathlib.Core.Bool.{Bool, false, not}
 use mathlib.Core.List.{List}
 use mathlib.Core.Logic.{_↔_}
 use native.Mathlib.Omega.{arith}
 use lib.Dec.{eqb}
 use Rattle.laws.specs.Choice.{pick, both, tested}
-use Rattle.laws.specs.First.{clash, some}
+use Rattle.laws.specs.First.{clash, some, some-cong}
 use Rattle.laws.specs.SumLaws.{sum-same}
 use Rattle.format.specs.Verdict.{Verdict, fine}
 use Rattle.format.specs.Outcome.{gives, after}
 use Rattle.format.specs.Laws.Outcome.{gives-same, after-fine}
 use Rattle.format.specs.Format.{people}
 use Rattle.stable_theory.specs.Repairs.Repair.{moved}
-use Rattle.stable_theory.specs.Repairs.Answer.{besides, robustness, Robust}
+use Rattle.stable_theory.specs.Repairs.Answer.{Answer, besides, robustness, Robust}
 use Rattle.stable_theory.specs.Repairs.Demand3Theory.{supermatch, supermatch-least}
 use Rattle.matchings.specs.BookMarket.{market, market-proper}
 use Rattle.matchings.specs.Matching.{vectorOf, checkMatching, MatchingIn, StableIn, womanOf}
@@ -150,3 +150,10 @@ module _ (b : List ℕ) (c : ℕ → ℕ) (m : List ℕ) (f : checkMatching b m 
       let S = fine-stable b m .0 f in
       let q = grade-number S c N in
       (most S c, reply-grade q, grade-covers S c q, grade-least S c q)
+
+-- The grade depends on which answers are `F`, and on the number
+pub grade-by-same :
+    (n : ℕ) (x y : ℕ → Answer) {g h : ℕ} → ((s : ℕ) → s < n → isFixed (x s) ≡ isFixed (y s)) → g ≡ h → gradeBy n x g ≡ gradeBy n y h
+unfolding gradeBy
+grade-by-same n x y e q =
+    ap₂ (λ (t : Bool) (k : ℕ). pick t (graded k) allFixed) (some-cong {k = n} (λ s u. ap not (e s u))) q

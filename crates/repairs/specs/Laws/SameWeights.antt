@@ -1,13 +1,12 @@
 -- Replies depend on the verdict, and where nothing is refused on the weights of the n students alone. So with every
 -- weight 1 the weighted replies are the plain ones, and weights past the largest n do not matter. Assumes nothing.
 use Prim.Native.Nat.{ℕ, _<_}
-use mathlib.Core.Path.{_≡_, refl, _∙_, ap, ap₂}
+use mathlib.Core.Path.{_≡_, refl, _∙_, ap}
 use mathlib.Core.List.{List}
-use mathlib.Core.Bool.{Bool, not}
+use mathlib.Core.Bool.{not}
 use lib.Dec.{eqb}
 use lib.IntN.{ℤ}
 use Rattle.laws.specs.Choice.{pick, both}
-use Rattle.laws.specs.First.{some-cong}
 use Rattle.laws.specs.SumLaws.{sum-same}
 use Rattle.format.specs.Verdict.{Verdict, fine, refused}
 use Rattle.format.specs.Outcome.{gives, after, filled}
@@ -21,7 +20,8 @@ use Rattle.matchings.specs.Extreme.{matchingOf}
 use Rattle.repairs.specs.Weights.{movedWeight}
 use Rattle.repairs.specs.Request.{askingMan}
 use Rattle.repairs.specs.Repair.{up, down, answerFor, withDistance, entriesFor, matchingFor, gainsFor, replyAfter, matchingAfter, gainsAfter}
-use Rattle.repairs.specs.Grade.{isFixed, fixedCount, graded, allFixed, gradeBy, gradeOf}
+use Rattle.repairs.specs.Grade.{isFixed, fixedCount, gradeOf}
+use Rattle.repairs.specs.Laws.GradeBytes.{grade-by-same}
 
 -- Weights c and d of the students of a book that agree
 module _ (b : List ℕ) {c d : ℕ → ℕ} (e : (i : ℕ) → i < people b → c i ≡ d i) (m : List ℕ) where
@@ -58,11 +58,8 @@ module _ (b : List ℕ) {c d : ℕ → ℕ} (e : (i : ℕ) → i < people b → 
 
   -- and the grade
   pub grade-same : gradeOf b c m ≡ gradeOf b d m
-  unfolding gradeBy
   grade-same =
-      ap₂ (λ (t : Bool) (g : ℕ). pick t (graded g) allFixed)
-      (some-cong {k = people b} (λ s u. ap (λ (a : Answer). not (isFixed a)) (answer-same s)))
-      (robustness-weights (market b) agree (vectorOf b m))
+      grade-by-same (people b) (answerFor b c m) (answerFor b d m) (λ s u. ap isFixed (answer-same s)) (robustness-weights (market b) agree (vectorOf b m))
 
 -- What depends on a verdict and on weights, and where something is refused on the verdict alone, is the same for
 -- verdicts that are the same and weights that agree where nothing is refused

@@ -1,6 +1,6 @@
 -- The number of fixed pairs by the letters of the answers. Assumes nothing.
 use Prim.Native.Nat.{ℕ, _≤_, _<_}
-use mathlib.Core.Path.{_≡_, refl, ap}
+use mathlib.Core.Path.{_≡_, ap}
 use mathlib.Core.Bool.{Bool, false, not}
 use mathlib.Core.List.{List}
 use lib.Dec.{eqb}
@@ -12,11 +12,10 @@ use Rattle.format.specs.declared.people.Partner.{Partner}
 use Rattle.format.specs.declared.people.Partner.the-variants.{With, Alone}
 use Rattle.format.specs.Format.{people, nobody}
 use Rattle.format.specs.Partner.{PartnerIs}
-use Rattle.stable_theory.specs.Repairs.Answer.{Answer, U, D, F}
 use Rattle.matchings.specs.Matching.{womanOf}
-use Rattle.repairs.specs.Repair.{answerFor}
+use Rattle.repairs.specs.Repair.{answerFor, letterByte}
 use Rattle.repairs.specs.Grade.{isFixed, fixedCount}
-use Rattle.sheets.specs.Sheet.{letterOf}
+use Rattle.nearest.specs.Laws.Grade.{letter-fixed}
 use Rattle.sheet_answers.specs.Over.{inFixedPair, fixedAmong}
 
 -- whether a man is in a fixed pair, by whom he has
@@ -37,17 +36,11 @@ among-same n m {l} {k} e =
 pub among-most : (n : ℕ) (m : List ℕ) (l : ℕ → ℕ) → fixedAmong n m l ≤ n
 among-most n m l = count-most n (λ s. inFixedPair (womanOf m s) (l s))
 
--- the letter of an answer is `F` where it is fixed
-letter-fixed : (a : Answer) → eqb (letterOf a) 70 ≡ isFixed a
-letter-fixed (U v) = refl
-letter-fixed (D v) = refl
-letter-fixed F = refl
-
--- so the letters of the answers for a matching count its fixed pairs
+-- the letters of the answers for a matching count its fixed pairs
 pub fixed-letters :
-    (b : List ℕ) (c : ℕ → ℕ) (m : List ℕ) → fixedAmong (people b) m (λ s. letterOf (answerFor b c m s)) ≡ fixedCount b c m
+    (b : List ℕ) (c : ℕ → ℕ) (m : List ℕ) → fixedAmong (people b) m (λ s. letterByte (answerFor b c m s)) ≡ fixedCount b c m
 unfolding fixedCount
 fixed-letters b c m =
-    sum-same (people b) (λ s. pick (inFixedPair (womanOf m s) (letterOf (answerFor b c m s))) 1 0)
+    sum-same (people b) (λ s. pick (inFixedPair (womanOf m s) (letterByte (answerFor b c m s))) 1 0)
     (λ s. pick (both (not (eqb (womanOf m s) nobody)) (isFixed (answerFor b c m s))) 1 0)
     (λ s u. ap (λ (t : Bool). pick {A = ℕ} (both (not (eqb (womanOf m s) nobody)) t) 1 0) (letter-fixed (answerFor b c m s)))

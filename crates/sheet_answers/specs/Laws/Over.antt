@@ -10,7 +10,7 @@ use Rattle.laws.specs.Values.{vec}
 use Rattle.format.specs.Verdict.{fine}
 use Rattle.format.specs.Format.{people}
 use Rattle.stable_theory.specs.Stable.Market.{Market}
-use Rattle.stable_theory.specs.Repairs.Answer.{Answer, U, D, F, answerOf, Answers, nearer-up, nearer-down, neither, SameAnswer, same-up, same-down, same-fixed}
+use Rattle.stable_theory.specs.Repairs.Answer.{Answer, Answers, nearer-up, nearer-down, neither}
 use Rattle.stable_theory.specs.Repairs.AnswerLaws.{answer-of}
 use Rattle.stable_theory.specs.Rotations.Numbering.{total}
 use Rattle.stable_theory.specs.Rotations.RotationAlike.{rotations-alike}
@@ -23,29 +23,24 @@ use Rattle.matchings.specs.Laws.StableCheck.{fine-stable}
 use Rattle.matchings.specs.Laws.StableVector.{vector-stable}
 use Rattle.stability.specs.Laws.Judged.{BookJudged}
 use Rattle.instances.specs.Usable.{marketIn}
-use Rattle.repairs.specs.Repair.{answerFor}
+use Rattle.repairs.specs.Repair.{answerFor, letterByte}
 use Rattle.repairs.specs.Grade.{fixedCount, gradeAnswer, gradeOf}
 use Rattle.repairs.specs.Promise.{PairIn}
 use Rattle.repairs.specs.Laws.Bytes.{moved-vector}
 use Rattle.repairs.specs.Laws.RepairBytes.{holds}
 use Rattle.repairs.specs.Laws.AnswerBytes.{alone-answer}
 use Rattle.nearest.specs.Nearest.{farOf, gradeIn}
+use Rattle.nearest.specs.Laws.Grade.{letter-same}
 use Rattle.nearest.specs.Laws.Book.{judged-formed, judged-number, judged-alike, judged-usable, answer-book, far-book, grade-book}
 use Rattle.sheets.specs.Line.{topLine, studentLines}
 use Rattle.sheets.specs.LineLaws.{lines-same}
-use Rattle.sheets.specs.Sheet.{letterOf, distanceOf, answers}
+use Rattle.sheets.specs.Sheet.{distanceOf, answers}
 use Rattle.pair_answers.specs.declared.answers.Summary.{Summary}
-use Rattle.pair_answers.specs.Answered.{letterByte, PairsAnswered}
+use Rattle.pair_answers.specs.Answered.{PairsAnswered}
 use Rattle.sheet_text.specs.Put.{Put}
 use Rattle.sheet_text.specs.Laws.Put.{put-on, put-long}
 use Rattle.sheet_answers.specs.Over.{letterIn, distanceIn, fixedAmong, sheetIn, sheetOver}
 use Rattle.sheet_answers.specs.Laws.Fixed.{among-same, fixed-letters}
-
--- the byte of an answer's letter
-letter-byte : (a : Answer) → letterByte a ≡ letterOf a
-letter-byte (U v) = refl
-letter-byte (D v) = refl
-letter-byte F = refl
 
 -- The answers for all pairs, and the number of fixed pairs of the matching m by their letters
 module _
@@ -57,21 +52,17 @@ module _
   abbrev lines : List ℕ
   lines = studentLines (womanOf m) (vec letters) (vec distances) (R .n)
 
-  -- the letters that were collected are those of the answers
-  letter-in : {s : ℕ} → s < R .n → vec letters s ≡ letterIn (marketIn R) c (vec (p .men)) s
-  letter-in {s} u = A .at u .letter ∙ letter-byte (answerOf (marketIn R) c (vec (p .men)) s)
-
-  -- the lines with them and the distances are the sheet
+  -- the lines with the letters and distances that were collected are the sheet
   sheet-in : top ++ lines ≡ sheetOver R c p m
   unfolding sheetIn
   sheet-in =
       let I = marketIn R in
       let v = vec (p .men) in
-      let f : fixed ≡ fixedAmong (R .n) m (letterIn I c v) = counted ∙ among-same (R .n) m (λ s u. letter-in u) in
+      let f : fixed ≡ fixedAmong (R .n) m (letterIn I c v) = counted ∙ among-same (R .n) m (λ s u. A .at u .letter) in
       let t : top ≡ topLine (R .n) (total I) (fixedAmong (R .n) m (letterIn I c v)) (gradeIn I c v) = cc (A .all-rotations, f, A .grade-is) in
       ap₂ (λ (t l : List ℕ). t ++ l) t
       (lines-same {w = womanOf m} {l = vec letters} {d = vec distances} {v = womanOf m} {m = letterIn I c v} {e = distanceIn I c v} (R .n)
-      (λ s u. (refl, letter-in u, A .at u .distance)))
+      (λ s u. (refl, A .at u .letter, A .at u .distance)))
 
   -- there is room for each part of it
   room : length top + length lines ≡ length (sheetOver R c p m)
@@ -87,12 +78,6 @@ module _
     -- and the two parts put one after the other are the whole
     pub sheet-put : {last : List ℕ} {after : ℕ} → Put first end lines last after → Put text 0 (sheetOver R c p m) last after
     sheet-put Q = rw (← sheet-in) (put-on P (omega arith) Q)
-
--- the same answer has the same letter
-letter-same : {I : Market} {a b : Answer} → SameAnswer I a b → letterOf a ≡ letterOf b
-letter-same (same-up e) = refl
-letter-same (same-down e) = refl
-letter-same same-fixed = refl
 
 -- an answer's distance in bytes is the weight of the moved places
 distance-far : {b m : List ℕ} → StableIn b m → (c : ℕ → ℕ) {s : ℕ} {a : Answer} → Answers (market b) c (vectorOf b m) s a →
@@ -110,7 +95,7 @@ module _ {b m : List ℕ} {R : Record} {j : Judged} (J : BookJudged b m R j) (f 
   p = vec (j .places .men)
 
   -- the letter and the distance over the record are those of the bytes
-  letter-book : {s : ℕ} → s < R .n → letterIn I c p s ≡ letterOf (answerFor b c m s)
+  letter-book : {s : ℕ} → s < R .n → letterIn I c p s ≡ letterByte (answerFor b c m s)
   letter-book u = letter-same (answer-book J f c u)
 
   -- where he is placed by his answer, and otherwise both are 0
@@ -135,14 +120,14 @@ module _ {b m : List ℕ} {R : Record} {j : Judged} (J : BookJudged b m R j) (f 
   fixed-book : fixedAmong (R .n) m (letterIn I c p) ≡ fixedCount b c m
   fixed-book =
       among-same (R .n) m (λ s u. letter-book u)
-      ∙ ap (λ (n : ℕ). fixedAmong n m (λ s. letterOf (answerFor b c m s))) (judged-number J f)
+      ∙ ap (λ (n : ℕ). fixedAmong n m (λ s. letterByte (answerFor b c m s))) (judged-number J f)
       ∙ fixed-letters b c m
 
   -- and the sheet over the record is the sheet of the bytes
   pub sheet-over : sheetOver R c (j .places) m ≡ answers b c m
   unfolding sheetIn answers
   sheet-over =
-      let letters : ℕ → ℕ = λ s. letterOf (answerFor b c m s) in
+      let letters : ℕ → ℕ = λ s. letterByte (answerFor b c m s) in
       let distances : ℕ → ℕ = λ s. distanceOf b c m (answerFor b c m s) in
       rw (totals, fixed-book, grade-book J f c)
       (ap₂ (λ (t l : List ℕ). t ++ l)

@@ -26,13 +26,13 @@ use Rattle.matchings.specs.Laws.StableCheck.{fine-stable}
 use Rattle.matchings.specs.Laws.Numbers.{matching-most}
 use Rattle.rotations.specs.Largest.{rotations-within}
 use Rattle.repairs.specs.Weights.{weightOf, checkWeights, checkWeighed}
-use Rattle.repairs.specs.Repair.{answerFor}
+use Rattle.repairs.specs.Repair.{answerFor, letterByte}
 use Rattle.repairs.specs.Grade.{fixedCount, gradeOf}
 use Rattle.repairs.specs.Laws.GradeBound.{grade-bound}
 use Rattle.nearest.specs.Nearest.{farOf}
 use Rattle.sheets.specs.Line.{topLine, studentLines}
 use Rattle.sheets.specs.Longest.{digits, totalDigits, topMost, studentMost, longest, weightedLongest}
-use Rattle.sheets.specs.Sheet.{letterOf, distanceOf, answers, sheetAfter, sheetFor, weightedSheetFor}
+use Rattle.sheets.specs.Sheet.{distanceOf, answers, sheetAfter, sheetFor, weightedSheetFor}
 use Rattle.sheet_text.specs.Laws.Lines.{top-short, refusal-short, lines-short}
 use Rattle.sheet_answers.specs.Laws.Fixed.{among-most, fixed-letters}
 
@@ -66,15 +66,15 @@ module _ {b : List ℕ} (W : WellFormed b) (c : ℕ → ℕ) {h e : ℕ} (light 
   unfolding answers
   answers-short {m} A =
       let few : people b ≤ largest = W .few in
-      let few-fixed = among-most (people b) m (λ s. letterOf (answerFor b c m s)) in
+      let few-fixed = among-most (people b) m (λ s. letterByte (answerFor b c m s)) in
       let top = topLine (people b) (total (market b)) (fixedCount b c m) (gradeOf b c m) in
-      let lines = studentLines (womanOf m) (λ s. letterOf (answerFor b c m s)) (λ s. distanceOf b c m (answerFor b c m s)) (people b) in
+      let lines = studentLines (womanOf m) (λ s. letterByte (answerFor b c m s)) (λ s. distanceOf b c m (answerFor b c m s)) (people b) in
       omega (
         arith,
         length-append top lines,
         top-short {n = people b} {r = total (market b)} {f = fixedCount b c m} (gradeOf b c m) e some (omega arith) (omega (arith, rotations-within W))
             (omega (arith, fixed-letters b c m)) (λ x q. total-short (grade-bound b c m light q)),
-        lines-short (womanOf m) (λ s. letterOf (answerFor b c m s)) (λ s. distanceOf b c m (answerFor b c m s)) e some (people b)
+        lines-short (womanOf m) (λ s. letterByte (answerFor b c m s)) (λ s. distanceOf b c m (answerFor b c m s)) e some (people b)
             (λ s u. (omega arith, λ n. omega (arith, woman-below A u n), total-short (distance-most b c m light (answerFor b c m s)))),
         mul-le-mul-left (2 * digits + e + 5) few,
       )

@@ -9,7 +9,7 @@ use Rattle.format.specs.Format.{listLength, entry}
 use Rattle.format.specs.Check.{Listed}
 use Rattle.format.specs.Laws.Bounds.{few-square}
 use Rattle.format.specs.Laws.Directory.{listed, stretch-holds}
-use Rattle.book.specs.Marked.{unmarked, listsUnmarked}
+use Rattle.book.specs.Marked.{listsUnmarked}
 use Rattle.book.specs.Laws.Marked.{cells-within}
 use Rattle.book.specs.Laws.Returned.{right-names, list-unmarked}
 use Rattle.book.proofs.returned.lists_unmarked.Statement.{statement}

@@ -4,18 +4,9 @@ use Rattle.format.specs.Format.{listLength}
 use Rattle.directory.proofs.field.length_of.Statement.{statement}
 use Rattle.directory.proofs.field.length_of.Tie as tie
 
-mul-word-at : tie.Need-mul-word-at
-mul-word-at c = search needs
-
-add-word-at : tie.Need-add-word-at
-add-word-at c = search needs
-
-word-at-requires : tie.Need-word-at-requires
-word-at-requires c κs = search needs
-
 returns : tie.Need-returns
 unfolding listLength
 returns c = c .word-at .ensures
 
 pub length-of-spec : {M : Type 1} → statement M
-length-of-spec = tie.close (tie.spec mul-word-at add-word-at word-at-requires returns)
+length-of-spec = tie.close (tie.spec (λ c. search needs) (λ c. search needs) (λ c κs. search needs) returns)

@@ -1,5 +1,5 @@
 -- `answer_pairs` meets its contract: the groups, what is measured of them up and down, and what is filled in from that
--- give the answer for each pair; the grade is that of the distances. Assumes nothing.
+-- give the answer for each pair; the grade is that of the letters and distances. Assumes nothing.
 use native.Mathlib.Omega.{arith}
 use borrow.Author.Needs.{needs}
 use Rattle.pair_answers.specs.Laws.Answered.{pairs-answered}

@@ -1,6 +1,6 @@
 -- `measure_down` meets its contract. The loop's invariant: those below s who answer for a group are measured up to
 -- their bounds. The measure is the number of men left. Assumes nothing.
-use Prim.Native.Nat.{ℕ, _-_, _≤_}
+use Prim.Native.Nat.{_-_, _≤_}
 use mathlib.Core.Path.{_≡_, refl, sym, _∙_}
 use mathlib.Core.Logic.{⊎-elim}
 use native.Mathlib.Omega.{arith}
