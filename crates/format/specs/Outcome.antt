@@ -22,6 +22,11 @@ abbrev pub countOutcome : Counted → Outcome ℕ
 countOutcome (Count k) = gives k
 countOutcome (Refused r) = refusal (r .number) (r .place) (r .second)
 
+-- An answer after a check that is made before the call's own: that answer, where nothing is refused
+abbrev pub orRefused : {A : Type 0} → Verdict → Outcome A → Outcome A
+orRefused fine answer = answer
+orRefused (refused number place second) answer = refusal number place second
+
 -- Rule 14: the result has so many entries, and the lent buffer has fewer
 abbrev pub checkRoom : ℕ → ℕ → Verdict
 checkRoom needed room = rule (ltb room needed) 14 0 fine
@@ -31,3 +36,8 @@ checkRoom needed room = rule (ltb room needed) 14 0 fine
 abbrev pub filled : {A : Type 0} → Verdict → ℕ → List A → List A → List A
 filled fine n result out = result ++ drop n out
 filled (refused number place second) n result out = out
+
+-- What it holds after a check that is made before the call's own: on a refusal what it held, else what that call leaves
+abbrev pub orHeld : {A : Type 0} → Verdict → List A → List A → List A
+orHeld fine next out = next
+orHeld (refused number place second) next out = out

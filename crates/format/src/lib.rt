@@ -13,6 +13,7 @@ mod verdict;
 
 pub use counted::Counted;
 pub use framed::Framed;
+pub use people::Holder;
 pub use people::Man;
 pub use people::Pair;
 pub use people::Partner;

@@ -17,3 +17,9 @@ pub enum Partner {
     With(Woman),
     Alone,
 }
+
+// The man of a woman in a matching, or that she is alone.
+pub enum Holder {
+    With(Man),
+    Alone,
+}

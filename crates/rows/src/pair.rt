@@ -1,7 +1,8 @@
-// Men and women: who has a number of a table, the pair that a request names, and whom a man has in a matching.
-// Outside this crate `wide` takes one apart, for an index.
+// Men and women: who has a number of a table, the pair that a request names, and whom a man and whom a woman has in a
+// matching. Outside this crate `wide` takes one apart, for an index.
 use crate::row::NOBODY;
 use crate::row::wide;
+use format::Holder;
 use format::Man;
 use format::Pair;
 use format::Partner;
@@ -11,7 +12,7 @@ ghost use Prim.Native.Nat.{_+_, _<_};
 ghost use lib.ListN.{length, set};
 ghost use Rattle.laws.specs.Moment.{now₀, now₁};
 ghost use Rattle.format.specs.Format.{largest, entryIn};
-ghost use Rattle.format.specs.Partner.{PartnerIs, entryFor};
+ghost use Rattle.format.specs.Partner.{PartnerIs, HolderIs, entryFor};
 
 // The man with a number.
 pub fn man_numbered(i: usize) -> Man
@@ -77,4 +78,26 @@ pub fn put_partner(matching: &mut [u8], m: Man, partner: Partner)
 {
     let i = wide(m.0);
     matching[i] = partner_entry(partner);
+}
+
+// The man of a woman on the women's side of a matching, or that she is alone.
+pub fn holder_of(men: &[u8], w: Woman) -> Holder
+    requires { ⌜ w .0 < length (now men) ⌝ }
+    ensures { λ r. ⌜ HolderIs (entryIn (now₀ men) (w .0)) r ⌝ }
+{
+    let i = wide(w.0);
+    let entry = men[i];
+    if entry == NOBODY {
+        return Holder::Alone;
+    }
+    Holder::With(Man(entry))
+}
+
+// Writes the man of a woman on the women's side of a matching.
+pub fn put_holder(men: &mut [u8], w: Woman, m: Man)
+    requires { ⌜ w .0 < length (now men) ⌝ }
+    ensures { λ _. ⌜ now₁ men ≡ set (now₀ men) (w .0) (m .0) ⌝ }
+{
+    let i = wide(w.0);
+    men[i] = m.0;
 }

@@ -1,12 +1,13 @@
 // Rows of entries, as one list and the list of rotations are, and sets of marks: one entry or mark read or written.
 ghost use mathlib.Core.Path.{_≡_};
 ghost use Prim.Native.Nat.{_<_, _≤_};
+ghost use lib.Dec.{eqb};
 ghost use lib.ListN.{length, set};
 ghost use Rattle.laws.specs.Choice.{pick};
 ghost use Rattle.laws.specs.Moment.{now₀, now₁};
-ghost use Rattle.format.specs.Format.{largest, entryIn, markIn};
+ghost use Rattle.format.specs.Format.{largest, nobody, entryIn, markIn};
 
-// The entry of a man without a woman.
+// The entry of a man without a woman, and of a woman without a man.
 pub const NOBODY: u8 = 255;
 
 // A byte as a number.
@@ -14,6 +15,13 @@ pub fn wide(x: u8) -> usize
     ensures { λ r. ⌜ (r ≡ x) × (r < 256) ⌝ }
 {
     x as usize
+}
+
+// Whether an entry is that of a man without a woman, or of a woman without a man.
+pub fn is_nobody(entry: usize) -> bool
+    ensures { λ r. ⌜ r ≡ eqb entry nobody ⌝ }
+{
+    entry == NOBODY as usize
 }
 
 // Entry i of a row.

@@ -5,10 +5,14 @@ use mathlib.Core.Path.{_≡_, refl}
 use mathlib.Core.List.{List}
 use lib.ListN.{length}
 use lib.Seq.{ext-getD}
-use Rattle.laws.specs.Values.{values, stored-at}
+use Rattle.laws.specs.Values.{vec, values, stored-at}
 use Rattle.format.specs.Format.{entryIn, pairRow, markIn}
 
 -- entries
+pub entry-read : (row : List ℕ) (i : ℕ) → entryIn row i ≡ vec row i
+unfolding entryIn
+entry-read row i = refl
+
 pub entry-stored : (n : ℕ) (f : ℕ → ℕ) {i : ℕ} → i < n → entryIn (values f 0 n) i ≡ f i
 unfolding entryIn
 entry-stored n f u = stored-at n f u
