@@ -1,4 +1,5 @@
 // A matching as places, and what its check makes of it.
+use crate::partners::Partners;
 use format::Checked;
 use format::Instance;
 
@@ -9,8 +10,10 @@ pub struct Places {
     pub women: [u16; Instance::LARGEST],
 }
 
-// What the check of a matching makes of it: its answer, and the places of the matching, zeros alone on a refusal.
+// What the check of a matching makes of it: its answer, the record of the matching and its places; on a refusal nobody
+// has anybody, and the places are zeros.
 pub struct Judged {
     pub checked: Checked,
+    pub partners: Partners,
     pub places: Places,
 }

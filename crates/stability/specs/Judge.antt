@@ -1,4 +1,4 @@
--- What `judge` answers: the verdict on a matching, and the places of both sides. Assumes nothing.
+-- What `judge` answers: the verdict on a matching, its record, and the places of both sides. Assumes nothing.
 use Prim.Native.Nat.{ℕ}
 use mathlib.Core.Path.{_≡_}
 use mathlib.Core.Bool.{Bool}
@@ -14,13 +14,16 @@ use Rattle.stable_theory.specs.Stable.Holder.{mirror}
 use Rattle.matchings.specs.declared.places.Judged.{Judged}
 use Rattle.matchings.specs.BookMarket.{market}
 use Rattle.matchings.specs.Matching.{vectorOf, checkMatching}
-use Rattle.stability.specs.Placing.{Entries}
+use Rattle.matchings.specs.Partners.{PartnersIs}
+use Rattle.stability.specs.Placing.{PlacesOf}
+use Rattle.stability.specs.Pairing.{NoPartners}
 
--- The verdict, and the places of the students and the mentors, none on a refusal
+-- The verdict, the record of the matching, and the places of the students and the mentors; on a refusal these are empty
 pub record JudgedIs (b m : List ℕ) (r : Judged) : Type 0 where
   pub checked : verdictOf (r .checked) ≡ checkMatching b m
-  pub men : Entries (numberIf (checkMatching b m) (people b)) (vectorOf b m) (r .places .men)
-  pub women : Entries (numberIf (checkMatching b m) (people b)) (mirror (market b) (vectorOf b m)) (r .places .women)
+  pub partners : PartnersIs (numberIf (checkMatching b m) (people b)) m (r .partners)
+  pub men : PlacesOf (numberIf (checkMatching b m) (people b)) (vectorOf b m) (r .places .men)
+  pub women : PlacesOf (numberIf (checkMatching b m) (people b)) (mirror (market b) (vectorOf b m)) (r .places .women)
 
 -- What is made of a book, from the answer of its check, whether lists may be short, and its record
 abbrev pub instanceOf : Checked → Bool → Record → Instance
@@ -43,8 +46,9 @@ EachBook answer partial R P = (b : List ℕ) → Recorded b (instanceOf answer p
 abbrev pub Judges : Checked → Bool → Record → List ℕ → Judged → Type 0
 Judges answer partial R m r = EachBook answer partial R (λ b. JudgedIs b m r)
 
--- An answer, with zeros for the places
+-- An answer, with that record and zeros for the places
 pub record Unplaced (checked : Checked) (r : Judged) : Type 0 where
   pub answer : r .checked ≡ checked
+  pub partners : NoPartners (r .partners)
   pub men : r .places .men ≡ replicate largest 0
   pub women : r .places .women ≡ replicate largest 0

@@ -2,6 +2,8 @@
 use crate::blocking::check_stable;
 use crate::listed::check_listed;
 use crate::names::check_names;
+use crate::partners::no_partners;
+use crate::partners::partners_of;
 use crate::placing::places_of;
 use book::is_small;
 use format::Checked;
@@ -76,7 +78,8 @@ fn check_with(
     judged.checked
 }
 
-// The same answer from what is made of the book, with the places of the matching: for each book of which that is made.
+// The same answer from what is made of the book, with the record of the matching and its places: for each book of which
+// that is made. The record is made where rules 8, 9 and 19 refuse nothing, and the places from it.
 pub fn judge(
     answer: Checked,
     n: usize,
@@ -103,28 +106,28 @@ pub fn judge(
     let Checked::Fine = listed else {
         return unplaced(listed);
     };
-    let places = places_of(n, mlists, mranks, wlists, wranks, matching);
-    let checked = check_stable(
-        n,
-        mlists,
-        mranks,
-        wlists,
-        wranks,
-        &places.men,
-        &places.women,
-    );
+    let partners = partners_of(n, matching);
+    let men = places_of(n, mlists, mranks, &partners.his);
+    let women = places_of(n, wlists, wranks, &partners.hers);
+    let checked = check_stable(n, mlists, mranks, wlists, wranks, &men, &women);
     let Checked::Fine = checked else {
         return unplaced(checked);
     };
-    Judged { checked, places }
+    let places = Places { men, women };
+    Judged {
+        checked,
+        partners,
+        places,
+    }
 }
 
-// A refusal, with no places.
+// A refusal, with nobody for a partner and no places.
 fn unplaced(checked: Checked) -> Judged
     ensures { λ r. ⌜ Unplaced checked r ⌝ }
 {
     Judged {
         checked,
+        partners: no_partners(),
         places: Places {
             men: [0u16; Instance::LARGEST],
             women: [0u16; Instance::LARGEST],

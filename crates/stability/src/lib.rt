@@ -4,6 +4,7 @@ mod blocking;
 mod judging;
 mod listed;
 mod names;
+mod partners;
 mod placing;
 
 pub use judging::check;

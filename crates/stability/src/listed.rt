@@ -12,7 +12,8 @@ ghost use mathlib.Core.Path.{_≡_};
 ghost use Prim.Native.Nat.{_<_};
 ghost use Rattle.laws.specs.Moment.{now₀};
 ghost use Rattle.format.specs.Verdict.{verdictOf};
-ghost use Rattle.stability.specs.Listed.{Readable, unlistedAt, checkListedAt};
+ghost use Rattle.stability.specs.Listed.{unlistedAt, checkListedAt};
+ghost use Rattle.stability.specs.Placing.{Readable};
 
 // Whether a man has a woman in the matching who does not stand on his list.
 fn is_unlisted(n: usize, mlists: &[u16], mranks: &[u16], matching: &[u8], man: Man) -> bool

@@ -31,15 +31,20 @@ woman-rank-most b w i = first-le _ _
 pub man-of-has : (n : ℕ) (m : List ℕ) (w : ℕ) → manOf n m w < n → womanOf m (manOf n m w) ≡ w
 man-of-has n m w h = eqb-true _ _ (first-hit (λ i. eqb (womanOf m i) w) n h)
 
+-- where no mentor stands twice, who has a mentor is her student
+pub man-of-once :
+    (n : ℕ) (m : List ℕ) → ((i j : ℕ) → i < n → j < n → womanOf m i < n → womanOf m i ≡ womanOf m j → i ≡ j) →
+    {i : ℕ} → i < n → womanOf m i < n → manOf n m (womanOf m i) ≡ i
+man-of-once n m once {i} u l =
+    scan-hit (λ j. eqb (womanOf m j) (womanOf m i))
+    (record {
+      within = omega arith;
+      fails = λ j v. ne-eqb (womanOf m j) (womanOf m i) (λ e. let z = once j i (omega arith) u (omega arith) e in omega arith);
+    }) u (eq-eqb (womanOf m i) (womanOf m i) refl)
+
 module _ {b m : List ℕ} (A : MatchingIn b m) where
-  -- who is a mentor's student has her, and is the one
   pub man-of-of : {i : ℕ} → i < people b → womanOf m i < people b → manOf (people b) m (womanOf m i) ≡ i
-  man-of-of {i} u l =
-      scan-hit (λ j. eqb (womanOf m j) (womanOf m i))
-      (record {
-        within = omega arith;
-        fails = λ j v. ne-eqb (womanOf m j) (womanOf m i) (λ e. let z = A .once j i (omega arith) u (omega arith) e in omega arith);
-      }) u (eq-eqb (womanOf m i) (womanOf m i) refl)
+  man-of-of = man-of-once (people b) m (A .once)
 
   -- who is alone has the end of his list for a rank, and so has a mentor who is alone
   pub alone-rank : {i : ℕ} → i < people b → people b ≤ womanOf m i → manRank b i (womanOf m i) ≡ manLength b i

@@ -16,13 +16,17 @@ use Rattle.format.specs.Verdict.{fine, rule}
 use Rattle.format.specs.Format.{people, nobody}
 use Rattle.format.specs.WellFormed.{WellFormed}
 use Rattle.format.specs.Record.{Record, recordOf, RecordIs}
+use Rattle.matchings.specs.declared.partners.Partners.{Partners}
 use Rattle.matchings.specs.BookMarket.{market}
 use Rattle.matchings.specs.Matching.{womanOf, manRank, womanRank, manLength, womanLength, manChoice, unlisted, checkListed, EntryOf, placed, unplaced}
+use Rattle.matchings.specs.Partners.{PartnersIs}
 use Rattle.matchings.specs.Laws.Entries.{each-lists, NamedIn}
+use Rattle.matchings.specs.Laws.Partners.{man-held, held-man, his-entry, hers-entry}
 use Rattle.instances.specs.Usable.{Usable, marketIn}
 use Rattle.instances.specs.Laws.BookTables.{usable, usable-alike}
-use Rattle.stability.specs.Listed.{unlistedAt, checkListedAt, Readable}
-use Rattle.stability.specs.Placing.{Placeable}
+use Rattle.stability.specs.Placing.{Readable}
+use Rattle.stability.specs.Listed.{unlistedAt, checkListedAt}
+use Rattle.stability.specs.Pairing.{Named}
 
 module _ {b : List ℕ} {R : Record} (W : WellFormed b) (T : RecordIs b (people b) R) where
   -- the tables with the book's number of persons as n
@@ -73,27 +77,52 @@ module _ {b : List ℕ} {R : Record} (W : WellFormed b) (T : RecordIs b (people 
   listed-same m = ap (λ (t : Bool). rule t 19 0 fine) (some-cong (λ i (u : i < people b). unlisted-same m u))
 
   module _ {m : List ℕ} (N : NamedIn b m) where
-    -- what the search by rule 19 asks is there
-    pub named-readable : Readable (people b) (R .mlists) (R .mranks) m
-    named-readable =
+    -- the entries of a matching are as the function that makes its record asks
+    pub named-entries : Named (people b) m
+    named-entries =
         record {
           few = W .few;
-          named = λ {i} u ne. mentor i ne (N .entries i u);
           long = omega (arith, N .long);
-          listed = sound .men .proposers .rows;
-          ranked = sound .women .ranked;
+          named = λ {i} u ne. mentor i ne (N .entries i u);
+          once = λ {i} {j} u v l e. N .once i j u v l e;
         }
       where
         mentor : (i : ℕ) → (womanOf m i ≡ nobody → ⊥) → EntryOf b m i → womanOf m i < people b
         mentor i ne (placed l) = l
         mentor i ne (unplaced p e) = absurd (ne e)
 
-    -- and what the function that makes the places asks
-    pub named-placeable : Placeable (people b) (R .mlists) (R .mranks) (R .wlists) (R .wranks) m
-    named-placeable =
+    -- what the search by rule 19 asks is there
+    pub named-readable : Readable (people b) (R .mlists) (R .mranks) m
+    named-readable =
         record {
-          readable = named-readable;
-          once = λ {i} {j} u v l e. N .once i j u v l e;
-          women-listed = sound .men .receivers .rows;
-          women-ranked = sound .men .ranked;
+          few = W .few;
+          named = named-entries .named;
+          long = named-entries .long;
+          listed = sound .men .proposers .rows;
+          ranked = sound .women .ranked;
         }
+
+    -- and what the function that makes the places of a side asks, of both sides
+    module _ {r : Partners} (P : PartnersIs (people b) m r) where
+      pub his-readable : Readable (people b) (R .mlists) (R .mranks) (r .his)
+      his-readable =
+          record {
+            few = W .few;
+            named = λ {i} u ne. let e = his-entry P u in omega (arith, named-entries .named u (λ z. ne (e ∙ z)));
+            long = omega (arith, W .few, P .his .long);
+            listed = sound .men .proposers .rows;
+            ranked = sound .women .ranked;
+          }
+
+      pub hers-readable : Readable (people b) (R .wlists) (R .wranks) (r .hers)
+      hers-readable =
+          record {
+            few = W .few;
+            named = λ {i = w} u ne.
+                let e = hers-entry P u in
+                let l = held-man (people b) m w (λ z. ne (e ∙ z)) in
+                omega (arith, man-held (people b) m w l);
+            long = omega (arith, W .few, P .hers .long);
+            listed = sound .men .receivers .rows;
+            ranked = sound .men .ranked;
+          }

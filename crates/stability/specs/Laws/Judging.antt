@@ -2,6 +2,8 @@
 use Prim.Native.Nat.{ℕ}
 use mathlib.Core.Path.{_≡_, sym, _∙_, ap, subst}
 use mathlib.Core.List.{List}
+use native.Mathlib.Omega.{arith}
+use Rattle.laws.specs.Entries.{entries-none, entries-same}
 use Rattle.format.specs.declared.record.Instance.{Instance}
 use Rattle.format.specs.declared.verdict.Checked.{Checked}
 use Rattle.format.specs.Verdict.{fine, refused, verdictOf}
@@ -10,29 +12,40 @@ use Rattle.format.specs.WellFormed.{WellFormed, fine-well-formed}
 use Rattle.format.specs.Check.{checkBook}
 use Rattle.format.specs.Record.{Record, recordOf, RecordIs, Recorded}
 use Rattle.stable_theory.specs.Stable.Holder.{mirror}
-use Rattle.matchings.specs.declared.places.Places.{Places}
+use Rattle.matchings.specs.declared.partners.Partners.{Partners}
 use Rattle.matchings.specs.declared.places.Judged.{Judged}
 use Rattle.matchings.specs.BookMarket.{market}
-use Rattle.matchings.specs.Matching.{vectorOf, checkNames, checkMatching, MatchingIn}
+use Rattle.matchings.specs.Matching.{womanOf, vectorOf, checkNames, checkMatching, MatchingIn}
+use Rattle.matchings.specs.Partners.{manOrNobody, PartnersIs}
 use Rattle.matchings.specs.Laws.Entries.{NamedIn, names-named, names-matching, names-first, listed-first}
 use Rattle.matchings.specs.Laws.StableCheck.{matching-stable, fine-stable}
 use Rattle.matchings.specs.Laws.StableVector.{place-rank, mirror-man}
 use Rattle.stability.specs.Blocking.{checkTables, Checkable}
-use Rattle.stability.specs.Listed.{checkListedAt, Readable}
-use Rattle.stability.specs.Placing.{Placeable, PlacesStored}
+use Rattle.stability.specs.Placing.{Readable, placeOf, PlacesOf}
+use Rattle.stability.specs.Listed.{checkListedAt}
+use Rattle.stability.specs.Pairing.{Named, NoPartners}
 use Rattle.stability.specs.Judge.{JudgedIs, Unplaced}
-use Rattle.stability.specs.Laws.Placing.{entries-none, entries-same}
-use Rattle.stability.specs.Laws.BookRecord.{listed-same, named-readable, named-placeable}
+use Rattle.stability.specs.Laws.BookRecord.{listed-same, named-entries, named-readable, his-readable, hers-readable}
 use Rattle.stability.specs.Laws.TableCheck.{places-checkable, man-place, woman-place, tables-stable}
 
+-- the record in which nobody has anybody is that of no students
+no-record : {m : List ℕ} {r : Partners} → NoPartners r → PartnersIs 0 m r
+no-record {m} N =
+    record {
+      his = rw (N .his) (entries-none (womanOf m));
+      hers = rw (N .hers) (entries-none (manOrNobody 0 m));
+      agree = λ u v. absurd (omega arith);
+    }
+
 module _ {b : List ℕ} (m : List ℕ) {i : Instance} {R : Record} (B : Recorded b i R) where
-  -- a refusal is the answer, with no places
+  -- a refusal is the answer, with an empty record and no places
   judged-refused :
       {answer : Checked} {r : Judged} {number place second : ℕ} → Unplaced answer r →
       verdictOf answer ≡ refused number place second → checkMatching b m ≡ refused number place second → JudgedIs b m r
   judged-refused U e f =
       record {
         checked = ap verdictOf (U .answer) ∙ e ∙ sym f;
+        partners = rw f (no-record (U .partners));
         men = rw (f, U .men) (entries-none (vectorOf b m));
         women = rw (f, U .women) (entries-none (mirror (market b) (vectorOf b m)));
       }
@@ -82,30 +95,46 @@ module _ {b : List ℕ} (m : List ℕ) {i : Instance} {R : Record} (B : Recorded
           judged-refused U e
           (listed-first b m book-fine names-fine (sym (listed-same formed book-tables m) ∙ sym (rw (book-tables .number) at h) ∙ e))
 
-      -- or the places can be made
-      pub judge-placeable : Placeable (R .n) (R .mlists) (R .mranks) (R .wlists) (R .wranks) m
-      judge-placeable = rw (book-tables .number) (named-placeable formed book-tables named)
+      -- or the record can be made
+      pub judge-entries : Named (R .n) m
+      judge-entries = rw (book-tables .number) (named-entries formed book-tables named)
 
-      -- and m is a matching
-      module _ (h : checkListedAt (R .n) (R .mlists) (R .mranks) m ≡ fine) where
-        matching : MatchingIn b m
-        matching = names-matching book-fine names-fine (sym (listed-same formed book-tables m) ∙ (rw (book-tables .number) at h))
+      module _ {r : Partners} (P : PartnersIs (R .n) m r) where
+        made : PartnersIs (people b) m r
+        made = rw (book-tables .number) at P
 
-        module _ {p : Places} (F : PlacesStored (R .n) (R .mlists) (R .mranks) (R .wlists) (R .wranks) m (R .n) (p .men) (p .women)) where
+        -- and from it the places of both sides
+        pub judge-his : Readable (R .n) (R .mlists) (R .mranks) (r .his)
+        judge-his = rw (book-tables .number) (his-readable formed book-tables named made)
+
+        pub judge-hers : Readable (R .n) (R .wlists) (R .wranks) (r .hers)
+        judge-hers = rw (book-tables .number) (hers-readable formed book-tables named made)
+
+        -- and m is a matching
+        module _ (h : checkListedAt (R .n) (R .mlists) (R .mranks) m ≡ fine) {men women : List ℕ}
+            (F : PlacesOf (R .n) (placeOf (R .n) (R .mlists) (R .mranks) (r .his)) men)
+            (G : PlacesOf (R .n) (placeOf (R .n) (R .wlists) (R .wranks) (r .hers)) women) where
+          matching : MatchingIn b m
+          matching = names-matching book-fine names-fine (sym (listed-same formed book-tables m) ∙ (rw (book-tables .number) at h))
+
+          his : PlacesOf (people b) (placeOf (people b) (R .mlists) (R .mranks) (r .his)) men
+          his = rw (book-tables .number) at F
+
+          hers : PlacesOf (people b) (placeOf (people b) (R .wlists) (R .wranks) (r .hers)) women
+          hers = rw (book-tables .number) at G
+
           -- with the places the check can be made
-          placed : PlacesStored (people b) (R .mlists) (R .mranks) (R .wlists) (R .wranks) m (people b) (p .men) (p .women)
-          placed = rw (book-tables .number) at F
-
-          pub judge-checkable : Checkable R (p .men) (p .women)
+          pub judge-checkable : Checkable R men women
           judge-checkable =
               let e = sym (book-tables .number) in
-              subst (λ (n : ℕ). Checkable (recordOf n (R .mlists) (R .mranks) (R .wlists) (R .wranks)) (p .men) (p .women)) e
-              (places-checkable matching book-tables placed)
+              subst (λ (n : ℕ). Checkable (recordOf n (R .mlists) (R .mranks) (R .wlists) (R .wranks)) men women) e
+              (places-checkable matching book-tables made his hers)
 
-          module _ (checked : Checked) (v : verdictOf checked ≡ checkTables (R .n) (R .mlists) (R .wranks) (p .men) (p .women)) where
+          module _ (checked : Checked) (v : verdictOf checked ≡ checkTables (R .n) (R .mlists) (R .wranks) men women) where
             -- its answer is the verdict
             verdict : verdictOf checked ≡ checkMatching b m
-            verdict = (rw (book-tables .number) at v) ∙ tables-stable matching book-tables placed ∙ sym (matching-stable matching)
+            verdict =
+                (rw (book-tables .number) at v) ∙ tables-stable matching book-tables made his hers ∙ sym (matching-stable matching)
 
             -- rule 10 refuses
             pub judged-unstable :
@@ -114,15 +143,19 @@ module _ {b : List ℕ} (m : List ℕ) {i : Instance} {R : Record} (B : Recorded
             judged-unstable e U = judged-refused U e (sym verdict ∙ e)
 
             -- it does not
-            pub judged-stable : verdictOf checked ≡ fine → JudgedIs b m (record { checked = checked; places = p })
+            pub judged-stable :
+                verdictOf checked ≡ fine →
+                JudgedIs b m (record { checked = checked; partners = r; places = record { men = men; women = women } })
             judged-stable e =
-                let S = fine-stable b m .0 (sym verdict ∙ e) in
+                let f = sym verdict ∙ e in
+                let S = fine-stable b m .0 f in
                 record {
                   checked = verdict;
-                  men = rw (sym verdict ∙ e)
-                      (entries-same (placed .his)
-                      (λ i u. sym (placed .his .here u) ∙ man-place matching book-tables placed u ∙ sym (place-rank matching u)));
-                  women = rw (sym verdict ∙ e)
-                      (entries-same (placed .hers)
-                      (λ w v. sym (placed .hers .here v) ∙ woman-place matching book-tables placed v ∙ sym (mirror-man S v)));
+                  partners = rw f made;
+                  men = rw f
+                      (entries-same his
+                      (λ i u. sym (his .here u) ∙ man-place matching book-tables made his hers u ∙ sym (place-rank matching u)));
+                  women = rw f
+                      (entries-same hers
+                      (λ w v. sym (hers .here v) ∙ woman-place matching book-tables made his hers v ∙ sym (mirror-man S v)));
                 }

@@ -12,7 +12,8 @@ use Rattle.tables.specs.Lists.{lenIn}
 use Rattle.format.specs.Format.{nobody}
 use Rattle.format.specs.Verdict.{fine, broken}
 use Rattle.matchings.specs.Matching.{womanOf}
-use Rattle.stability.specs.Listed.{unlistedAt, checkListedAt, Readable}
+use Rattle.stability.specs.Listed.{unlistedAt, checkListedAt}
+use Rattle.stability.specs.Placing.{Readable}
 
 module _ {n : ℕ} {mlists mranks m : List ℕ} (A : Readable n mlists mranks m) {i : ℕ} (u : i < n) where
   -- a man who is alone is in no pair

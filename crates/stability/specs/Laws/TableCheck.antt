@@ -9,33 +9,47 @@ use lib.Dec.{ltb}
 use borrow.Author.Tests.{lt-ltb, le-ltb, ltb-true}
 use Rattle.laws.specs.Choice.{both, split}
 use Rattle.laws.specs.First.{first, first-cong, some-cong}
+use Rattle.laws.specs.Table.{cell}
 use Rattle.laws.specs.Values.{vec}
 use Rattle.laws.specs.Within.{within-first, within-some}
 use Rattle.format.specs.Verdict.{refused}
 use Rattle.format.specs.Format.{people}
 use Rattle.format.specs.Record.{Record, RecordIs}
+use Rattle.matchings.specs.declared.partners.Partners.{Partners}
 use Rattle.matchings.specs.Matching.{womanOf, manRank, womanRank, manLength, womanLength, manChoice, manOf, blocks, bestBlocking, lowestBlocking, checkStable, MatchingIn}
-use Rattle.matchings.specs.Laws.Blocking.{man-rank-most, woman-rank-most, alone-rank, free-rank, blocks-tests}
+use Rattle.matchings.specs.Partners.{PartnersIs}
+use Rattle.matchings.specs.Laws.Blocking.{man-rank-most, woman-rank-most, alone-rank, alone-entry, free-rank, blocks-tests}
+use Rattle.matchings.specs.Laws.Partners.{man-held, man-none, his-entry, hers-entry}
 use Rattle.matchings.specs.Laws.StableCheck.{rank-choice, lowest-best}
 use Rattle.stability.specs.Blocking.{willing, someWilling, lowestWilling, checkTables, Checkable}
-use Rattle.stability.specs.Placing.{PlacesStored}
+use Rattle.stability.specs.Placing.{placeOf, PlacesOf}
+use Rattle.stability.specs.Laws.Placing.{place-alone, place-with}
 use Rattle.stability.specs.Laws.BookRecord.{whole, sound, man-length, woman-length, man-list, man-rank, woman-rank}
 
-module _ {b m : List ℕ} {R : Record} (A : MatchingIn b m) (T : RecordIs b (people b) R) {men women : List ℕ} (F : PlacesStored (people b) (R .mlists) (R .mranks) (R .wlists) (R .wranks) m (people b) men women) where
+module _ {b m : List ℕ} {R : Record} (A : MatchingIn b m) (T : RecordIs b (people b) R) {r : Partners} (P : PartnersIs (people b) m r)
+    {men women : List ℕ} (F : PlacesOf (people b) (placeOf (people b) (R .mlists) (R .mranks) (r .his)) men)
+    (G : PlacesOf (people b) (placeOf (people b) (R .wlists) (R .wranks) (r .hers)) women) where
   -- the places are those of the matching: who is alone has the end of the list
   pub man-place : {i : ℕ} → i < people b → vec men i ≡ manRank b i (womanOf m i)
   man-place {i} u =
-      F .his .here u
+      let e = his-entry P u in
+      F .here u
       ∙ split (people b) (womanOf m i)
-      (λ l. rw (lt-ltb i (people b) u, le-ltb _ _ l) (man-length (A .formed) T u ∙ sym (alone-rank A u l)))
-      (λ l. rw (lt-ltb i (people b) u, lt-ltb _ _ l) (man-rank (A .formed) T u l))
+      (λ l. place-alone _ _ _ (r .his) i (e ∙ alone-entry A u l) ∙ man-length (A .formed) T u ∙ sym (alone-rank A u l))
+      (λ l.
+      place-with _ _ _ (r .his) i (λ z. omega (arith, A .formed .few)) ∙ ap (cell (R .mranks) (people b) i) e
+      ∙ man-rank (A .formed) T u l)
 
   pub woman-place : {w : ℕ} → w < people b → vec women w ≡ womanRank b w (manOf (people b) m w)
   woman-place {w} v =
-      F .hers .here v
+      let e = hers-entry P v in
+      G .here v
       ∙ split (people b) (manOf (people b) m w)
-      (λ l. rw (le-ltb _ _ l) (woman-length (A .formed) T v ∙ sym (free-rank A v l)))
-      (λ l. rw (lt-ltb _ _ l) (woman-rank (A .formed) T l v))
+      (λ l. place-alone _ _ _ (r .hers) w (e ∙ man-none (people b) m w l) ∙ woman-length (A .formed) T v ∙ sym (free-rank A v l))
+      (λ l.
+      let h = e ∙ man-held (people b) m w l in
+      place-with _ _ _ (r .hers) w (λ z. omega (arith, A .formed .few)) ∙ ap (cell (R .wranks) (people b) w) h
+      ∙ woman-rank (A .formed) T l v)
 
   -- so none is past the end of a list
   man-on : {i : ℕ} → i < people b → vec men i ≤ manLength b i
@@ -95,11 +109,11 @@ module _ {b m : List ℕ} {R : Record} (A : MatchingIn b m) (T : RecordIs b (peo
       record {
         usable = sound (A .formed) T;
         men-on = record {
-          long = omega (arith, F .his .long, A .formed .few);
+          long = omega (arith, F .long, A .formed .few);
           on = λ u. omega (arith, man-on u, man-length (A .formed) T u);
         };
         women-on = record {
-          long = omega (arith, F .hers .long, A .formed .few);
+          long = omega (arith, G .long, A .formed .few);
           on = λ v. omega (arith, woman-on v, woman-length (A .formed) T v);
         };
       }
