@@ -16,15 +16,14 @@ pub fn grade(book: &[u8], matching: &[u8]) -> Graded
     let ones = [1u32; Instance::LARGEST];
     let all = &ones[..];
     let n = student_count(book);
-    grade_by(book, matching, &all[..n], all)
+    grade_by(book, matching, &all[..n])
 }
 
 // The same with a weight for each student, one byte each: the largest total less the asking student's own weight.
 pub fn weighted_grade(book: &[u8], matching: &[u8], weights: &[u8]) -> Graded
     ensures { λ r. ⌜ gradeOutcome r ≡ weightedGrade (now₀ book) (now₀ matching) (now₀ weights) ⌝ }
 {
-    let given = read_weights(matching, weights);
+    let given = read_weights(weights);
     let men = given.men;
-    let women = given.women;
-    grade_by(book, matching, &men[..given.count], &women)
+    grade_by(book, matching, &men[..given.count])
 }

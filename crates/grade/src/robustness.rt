@@ -1,6 +1,4 @@
-// The grade of a matching with weights.
-//
-// `weights` has the weight of each man, and `wweights` that of each woman's man.
+// The grade of a matching with weights: `weights` has the weight of each man.
 use book::is_small;
 use format::Checked;
 use format::Instance;
@@ -10,6 +8,7 @@ use repairs::Grade;
 use repairs::Graded;
 use stability::judge;
 use weights::check_weights;
+use weights::weigh_women;
 ghost use mathlib.Core.Path.{_≡_};
 ghost use Rattle.laws.specs.Moment.{now₀};
 ghost use Rattle.format.specs.Outcome.{after};
@@ -17,12 +16,12 @@ ghost use Rattle.format.specs.Record.{Record, lent, LongTables};
 ghost use Rattle.format.specs.Verdict.{verdictOf};
 ghost use Rattle.stability.specs.Judge.{FromBook, EachBook};
 ghost use Rattle.repairs.specs.Grade.{allFixed, gradeOutcome, weightedGrade};
-ghost use Rattle.weights.specs.Weights.{WeightsGiven};
+ghost use Rattle.weights.specs.Weights.{Light};
 
 // The grade of a matching of a book: the largest total of an answer, less the asking student's own weight, over the
 // pairs that are not fixed; or that all are fixed; or the first rule that is broken and where.
-pub(crate) fn grade_by(book: &[u8], matching: &[u8], weights: &[u32], wweights: &[u32]) -> Graded
-    requires { ⌜ WeightsGiven (now matching) (now weights) (now wweights) ⌝ }
+pub(crate) fn grade_by(book: &[u8], matching: &[u8], weights: &[u32]) -> Graded
+    requires { ⌜ Light (now weights) ⌝ }
     ensures { λ r. ⌜ gradeOutcome r ≡ weightedGrade (now₀ book) (now₀ matching) (now₀ weights) ⌝ }
 {
     if is_small(book) {
@@ -38,7 +37,6 @@ pub(crate) fn grade_by(book: &[u8], matching: &[u8], weights: &[u32], wweights: 
             &mut wranks,
             matching,
             weights,
-            wweights,
         );
     }
     let mut mlists = [Instance::VACANT; Instance::LISTS];
@@ -53,7 +51,6 @@ pub(crate) fn grade_by(book: &[u8], matching: &[u8], weights: &[u32], wweights: 
         &mut wranks,
         matching,
         weights,
-        wweights,
     )
 }
 
@@ -66,11 +63,10 @@ fn grade_with(
     wranks: &mut [u16],
     matching: &[u8],
     weights: &[u32],
-    wweights: &[u32],
 ) -> Graded
     requires { ⌜ LongTables (now book) (now mlists) (now mranks) ⌝ }
     requires { ⌜ LongTables (now book) (now wlists) (now wranks) ⌝ }
-    requires { ⌜ WeightsGiven (now matching) (now weights) (now wweights) ⌝ }
+    requires { ⌜ Light (now weights) ⌝ }
     ensures { λ r. ⌜ gradeOutcome r ≡ weightedGrade (now₀ book) (now₀ matching) (now₀ weights) ⌝ }
 {
     let instance = load(book, mlists, mranks, wlists, wranks);
@@ -86,7 +82,6 @@ fn grade_with(
         wranks,
         matching,
         weights,
-        wweights,
     )
 }
 
@@ -101,12 +96,11 @@ fn grade_in<'a>(
     wranks: &'a [u16],
     matching: &[u8],
     weights: &[u32],
-    wweights: &[u32],
 ) -> Graded
     ghost { Record }
     requires { λ R. ⌜ lent n mlists mranks wlists wranks ≡ R ⌝ }
     requires { λ R. ⌜ FromBook answer partial R ⌝ }
-    requires { λ _. ⌜ WeightsGiven (now matching) (now weights) (now wweights) ⌝ }
+    requires { λ _. ⌜ Light (now weights) ⌝ }
     ensures { λ R r. ⌜ EachBook answer partial R (λ b. gradeOutcome r ≡ weightedGrade b (now₀ matching) (now₀ weights)) ⌝ }
 {
     let judged = judge(answer, n, partial, mlists, mranks, wlists, wranks, matching);
@@ -115,6 +109,9 @@ fn grade_in<'a>(
     let Checked::Fine = checked else {
         return ungraded(checked);
     };
+    let partners = judged.partners;
+    let hers = partners.hers;
+    let wweights = weigh_women(&hers, weights, n);
     let mut letters = [0u8; Instance::LARGEST];
     let mut distances = [0u32; Instance::LARGEST];
     let places = judged.places;
@@ -126,7 +123,7 @@ fn grade_in<'a>(
         wranks,
         places,
         weights,
-        wweights,
+        &wweights,
         &mut letters[..],
         &mut distances[..],
     );

@@ -16,7 +16,7 @@ ghost use Rattle.nearest.specs.Nearest.{GivenIn, BothWeighed};
 ghost use Rattle.sheet_text.specs.Put.{Put};
 ghost use Rattle.sheet_answers.specs.Over.{sheetOver};
 
-// Puts the sheet of a stable matching at the front of `text`.
+// Puts the sheet of a stable matching at the front of `text`: `his` has the woman of each man.
 pub fn put_answers<'a>(
     n: usize,
     mlists: &'a [u16],
@@ -26,14 +26,14 @@ pub fn put_answers<'a>(
     places: Places,
     weights: &[u32],
     wweights: &[u32],
-    matching: &[u8],
+    his: &[u8],
     text: &mut [u8],
 ) -> usize
     ghost { Record }
     requires { λ R. ⌜ lent n mlists mranks wlists wranks ≡ R ⌝ }
     requires { λ R. ⌜ Usable R × GivenIn R places × BothWeighed R (vec (places .men)) (now weights) (now wweights) ⌝ }
-    requires { λ R. ⌜ (n ≤ length (now matching)) × (length (sheetOver R (vec (now weights)) places (now matching)) ≤ length (now text)) ⌝ }
-    ensures { λ R r. ⌜ Put (now₀ text) 0 (sheetOver R (vec₀ weights) places (now₀ matching)) (now₁ text) r ⌝ }
+    requires { λ R. ⌜ (n ≤ length (now his)) × (length (sheetOver R (vec (now weights)) places (now his)) ≤ length (now text)) ⌝ }
+    ensures { λ R r. ⌜ Put (now₀ text) 0 (sheetOver R (vec₀ weights) places (now₀ his)) (now₁ text) r ⌝ }
 {
     let mut letters = [0u8; Instance::LARGEST];
     let mut distances = [0u32; Instance::LARGEST];
@@ -49,8 +49,8 @@ pub fn put_answers<'a>(
         &mut letters[..],
         &mut distances[..],
     );
-    let fixed = count_fixed(n, matching, &letters[..]);
+    let fixed = count_fixed(n, his, &letters[..]);
     let grade = all.grade;
     let end = put_top(text, 0, n, all.rotations, fixed, grade);
-    put_lines(text, end, n, matching, &letters[..], &distances[..])
+    put_lines(text, end, n, his, &letters[..], &distances[..])
 }

@@ -65,7 +65,7 @@ fn put_plain(input: &[u8], text: &mut [u8]) -> usize
     let ones = [1u32; Instance::LARGEST];
     let all = &ones[..];
     let n = student_count(book);
-    put_sheet(book, &input[end..], &all[..n], all, text)
+    put_sheet(book, &input[end..], &all[..n], text)
 }
 
 // Puts the weighted sheet of what was read: a book, past it n bytes for the matching, and past these the weights.
@@ -78,8 +78,7 @@ fn put_weighted(input: &[u8], text: &mut [u8]) -> usize
     let rest = &input[end..];
     let n = least(people_in(input), rest.len());
     let matching = &rest[..n];
-    let given = read_weights(matching, &rest[n..]);
+    let given = read_weights(&rest[n..]);
     let men = given.men;
-    let women = given.women;
-    put_sheet(book, matching, &men[..given.count], &women, text)
+    put_sheet(book, matching, &men[..given.count], text)
 }

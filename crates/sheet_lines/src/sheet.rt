@@ -1,6 +1,4 @@
-// The sheet of a book, a matching and weights.
-//
-// `weights` has the weight of each man, and `wweights` that of each woman's man.
+// The sheet of a book, a matching and weights: `weights` has the weight of each man.
 use book::is_small;
 use format::Checked;
 use format::Instance;
@@ -9,24 +7,19 @@ use sheet_answers::put_answers;
 use sheet_text::put_refused;
 use stability::judge;
 use weights::check_weights;
+use weights::weigh_women;
 ghost use mathlib.Core.Path.{_≡_};
 ghost use Rattle.laws.specs.Moment.{now₀, now₁};
 ghost use Rattle.format.specs.Record.{Record, lent, LongTables};
 ghost use Rattle.stability.specs.Judge.{FromBook, EachBook};
 ghost use Rattle.sheets.specs.Sheet.{weightedSheetFor};
 ghost use Rattle.sheet_text.specs.Put.{Put};
-ghost use Rattle.weights.specs.Weights.{WeightsGiven};
+ghost use Rattle.weights.specs.Weights.{Light};
 ghost use Rattle.sheet_lines.specs.Room.{Room};
 
 // Puts the sheet at the front of `text`.
-pub(crate) fn put_sheet(
-    book: &[u8],
-    matching: &[u8],
-    weights: &[u32],
-    wweights: &[u32],
-    text: &mut [u8],
-) -> usize
-    requires { ⌜ WeightsGiven (now matching) (now weights) (now wweights) × Room (now weights) (now text) ⌝ }
+pub(crate) fn put_sheet(book: &[u8], matching: &[u8], weights: &[u32], text: &mut [u8]) -> usize
+    requires { ⌜ Light (now weights) × Room (now weights) (now text) ⌝ }
     ensures { λ r. ⌜ Put (now₀ text) 0 (weightedSheetFor (now₀ book) (now₀ matching) (now₀ weights)) (now₁ text) r ⌝ }
 {
     if is_small(book) {
@@ -42,7 +35,6 @@ pub(crate) fn put_sheet(
             &mut wranks,
             matching,
             weights,
-            wweights,
             text,
         );
     }
@@ -58,7 +50,6 @@ pub(crate) fn put_sheet(
         &mut wranks,
         matching,
         weights,
-        wweights,
         text,
     )
 }
@@ -72,12 +63,11 @@ fn put_with(
     wranks: &mut [u16],
     matching: &[u8],
     weights: &[u32],
-    wweights: &[u32],
     text: &mut [u8],
 ) -> usize
     requires { ⌜ LongTables (now book) (now mlists) (now mranks) ⌝ }
     requires { ⌜ LongTables (now book) (now wlists) (now wranks) ⌝ }
-    requires { ⌜ WeightsGiven (now matching) (now weights) (now wweights) × Room (now weights) (now text) ⌝ }
+    requires { ⌜ Light (now weights) × Room (now weights) (now text) ⌝ }
     ensures { λ r. ⌜ Put (now₀ text) 0 (weightedSheetFor (now₀ book) (now₀ matching) (now₀ weights)) (now₁ text) r ⌝ }
 {
     let instance = load(book, mlists, mranks, wlists, wranks);
@@ -93,7 +83,6 @@ fn put_with(
         wranks,
         matching,
         weights,
-        wweights,
         text,
     )
 }
@@ -110,13 +99,12 @@ fn put_judged<'a>(
     wranks: &'a [u16],
     matching: &[u8],
     weights: &[u32],
-    wweights: &[u32],
     text: &mut [u8],
 ) -> usize
     ghost { Record }
     requires { λ R. ⌜ lent n mlists mranks wlists wranks ≡ R ⌝ }
     requires { λ R. ⌜ FromBook answer partial R ⌝ }
-    requires { λ _. ⌜ WeightsGiven (now matching) (now weights) (now wweights) × Room (now weights) (now text) ⌝ }
+    requires { λ _. ⌜ Light (now weights) × Room (now weights) (now text) ⌝ }
     ensures { λ R r. ⌜ EachBook answer partial R (λ b. Put (now₀ text) 0 (weightedSheetFor b (now₀ matching) (now₀ weights))
         (now₁ text) r) ⌝ }
 {
@@ -126,6 +114,10 @@ fn put_judged<'a>(
     let Checked::Fine = checked else {
         return put_refused(text, checked);
     };
+    let partners = judged.partners;
+    let his = partners.his;
+    let hers = partners.hers;
+    let wweights = weigh_women(&hers, weights, n);
     let places = judged.places;
     put_answers(
         n,
@@ -135,8 +127,8 @@ fn put_judged<'a>(
         wranks,
         places,
         weights,
-        wweights,
-        matching,
+        &wweights,
+        &his[..n],
         text,
     )
 }

@@ -18,8 +18,8 @@ ShortGrade (graded g) = FiveDigits g
 ShortGrade allFixed = Unit {0}
 
 -- What the lines of n students are made of: so many entries, letters and distances, few students, and short distances
-pub record LinesGiven (n : ℕ) (matching letters distances : List ℕ) : Type 0 where
-  pub women : n ≤ length matching
+pub record LinesGiven (n : ℕ) (his letters distances : List ℕ) : Type 0 where
+  pub women : n ≤ length his
   pub letters-long : n ≤ length letters
   pub distances-long : n ≤ length distances
   pub few : n ≤ largest

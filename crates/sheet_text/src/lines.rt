@@ -1,4 +1,5 @@
-// The lines of the sheet put into a buffer at a position; each function gives the position past what it put.
+// The lines of the sheet put into a buffer at a position; each function gives the position past what it put. `his` is
+// the men's side of the record of a matching: the woman of each man, or nobody.
 use crate::text::put_byte;
 use crate::text::put_field;
 use format::Checked;
@@ -83,19 +84,12 @@ fn put_alone(out: &mut [u8], at: usize, man: Man) -> usize
 }
 
 // The line of a man: that of his pair, or that of one who is alone.
-fn put_line(
-    out: &mut [u8],
-    at: usize,
-    matching: &[u8],
-    man: Man,
-    letter: u8,
-    distance: u32,
-) -> usize
-    requires { ⌜ (man .0 < length (now matching)) × FiveDigits distance ×
-        (at + length (studentLine (man .0) (entryIn (now matching) (man .0)) letter distance) ≤ length (now out)) ⌝ }
-    ensures { λ r. ⌜ Put (now₀ out) at (studentLine (man .0) (entryIn (now₀ matching) (man .0)) letter distance) (now₁ out) r ⌝ }
+fn put_line(out: &mut [u8], at: usize, his: &[u8], man: Man, letter: u8, distance: u32) -> usize
+    requires { ⌜ (man .0 < length (now his)) × FiveDigits distance ×
+        (at + length (studentLine (man .0) (entryIn (now his) (man .0)) letter distance) ≤ length (now out)) ⌝ }
+    ensures { λ r. ⌜ Put (now₀ out) at (studentLine (man .0) (entryIn (now₀ his) (man .0)) letter distance) (now₁ out) r ⌝ }
 {
-    let partner = partner_of(matching, man);
+    let partner = partner_of(his, man);
     match partner {
         Partner::With(woman) => put_pair(out, at, man, woman, letter, distance),
         Partner::Alone => put_alone(out, at, man),
@@ -107,13 +101,13 @@ pub fn put_lines(
     out: &mut [u8],
     at: usize,
     n: usize,
-    matching: &[u8],
+    his: &[u8],
     letters: &[u8],
     distances: &[u32],
 ) -> usize
-    requires { ⌜ LinesGiven n (now matching) (now letters) (now distances) ⌝ }
-    requires { ⌜ at + length (studentLines (entryIn (now matching)) (vec (now letters)) (vec (now distances)) n) ≤ length (now out) ⌝ }
-    ensures { λ r. ⌜ Put (now₀ out) at (studentLines (entryIn (now₀ matching)) (vec₀ letters) (vec₀ distances) n) (now₁ out) r ⌝ }
+    requires { ⌜ LinesGiven n (now his) (now letters) (now distances) ⌝ }
+    requires { ⌜ at + length (studentLines (entryIn (now his)) (vec (now letters)) (vec (now distances)) n) ≤ length (now out) ⌝ }
+    ensures { λ r. ⌜ Put (now₀ out) at (studentLines (entryIn (now₀ his)) (vec₀ letters) (vec₀ distances) n) (now₁ out) r ⌝ }
 {
     let mut end = at;
     let mut man = Man(0);
@@ -121,7 +115,7 @@ pub fn put_lines(
         let s = wide(man.0);
         let letter = letters[s];
         let distance = distances[s];
-        end = put_line(out, end, matching, man, letter, distance);
+        end = put_line(out, end, his, man, letter, distance);
         man = next_man(man);
     }
     end

@@ -1,24 +1,17 @@
-// The weights of the men read from bytes, one byte a man, and of each woman that of the man whom a matching gives her.
+// The weights of the men read from bytes, one byte a man.
 use format::Instance;
-use format::Man;
-use format::Partner;
-use rows::next_man;
-use rows::partner_of;
-use rows::wide;
 ghost use mathlib.Core.Path.{_≡_};
 ghost use Prim.Native.Nat.{_+_, _≤_, _<_, min};
 ghost use lib.ListN.{length, take};
 ghost use Rattle.laws.specs.Moment.{now₀};
 ghost use Rattle.format.specs.Format.{largest};
-ghost use Rattle.weights.specs.Weights.{WeightsGiven, MenWeighed, WomenWeighed};
+ghost use Rattle.weights.specs.Weights.{Light, MenWeighed};
 
-// Weights before anything is known of the book: how many there are, those of the men, and of each woman that of her
-// man. More than the largest n are too many for every book, so that one more is enough to see it. Zeros stand where
-// there is none.
+// Weights before anything is known of the book: how many there are, and those of the men. More than the largest n are
+// too many for every book, so that one more is enough to see it. Zeros stand where there is none.
 pub struct Weights {
     pub count: usize,
     pub men: [u32; Instance::LARGEST + 1],
-    pub women: [u32; Instance::LARGEST],
 }
 
 // The lesser of two numbers.
@@ -49,41 +42,14 @@ fn weigh_men(weights: &[u8], count: usize) -> [u32; Instance::LARGEST + 1]
     men
 }
 
-// Of each woman the weight of her man, among the first n men.
-fn weigh_women(
-    matching: &[u8],
-    men: &[u32; Instance::LARGEST + 1],
-    n: usize,
-) -> [u32; Instance::LARGEST]
-    requires { ⌜ (n ≤ length (now matching)) × (n ≤ largest) ⌝ }
-    ensures { λ r. ⌜ WomenWeighed (now₀ matching) (now₀ men) n n r ⌝ }
-{
-    let mut women = [0u32; Instance::LARGEST];
-    let mut man = Man(0);
-    while wide(man.0) < n {
-        let i = wide(man.0);
-        let partner = partner_of(matching, man);
-        if let Partner::With(woman) = partner {
-            let w = wide(woman.0);
-            if w < Instance::LARGEST {
-                women[w] = men[i];
-            }
-        }
-        man = next_man(man);
-    }
-    women
-}
-
-// The weights of the students, and of each mentor that of the student whom the matching gives her.
-pub fn read_weights(matching: &[u8], weights: &[u8]) -> Weights
-    ensures given { λ r. ⌜ WeightsGiven (now₀ matching) (take (r .count) (r .men)) (r .women) ⌝ }
+// The weights of the students.
+pub fn read_weights(weights: &[u8]) -> Weights
+    ensures light { λ r. ⌜ Light (take (r .count) (r .men)) ⌝ }
     ensures same { λ r. ⌜ take (r .count) (r .men) ≡ take (largest + 1) (now₀ weights) ⌝ }
     ensures count { λ r. ⌜ (r .count ≡ min (largest + 1) (length (now₀ weights))) ×
         (r .count ≤ length (r .men)) × (r .count ≡ length (take (r .count) (r .men))) ⌝ }
 {
     let count = least(Instance::LARGEST + 1, weights.len());
-    let n = least(least(count, matching.len()), Instance::LARGEST);
     let men = weigh_men(weights, count);
-    let women = weigh_women(matching, &men, n);
-    Weights { count, men, women }
+    Weights { count, men }
 }

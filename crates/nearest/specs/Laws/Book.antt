@@ -1,13 +1,13 @@
 -- The nearest repair over the record of a book is that of the book: what the check of a matching leaves is what the
 -- search asks, and what the search finds is the answer for the bytes. Assumes nothing.
 use Prim.Native.Nat.{ℕ, _≤_, _<_}
-use mathlib.Core.Path.{_≡_, subst, _∙_}
+use mathlib.Core.Path.{_≡_, sym, subst, _∙_}
 use mathlib.Core.List.{List}
 use native.Mathlib.Omega.{arith}
-use lib.ListN.{length}
+use lib.ListN.{length, take}
 use Rattle.laws.specs.Values.{vec}
 use Rattle.format.specs.Verdict.{Verdict, fine}
-use Rattle.format.specs.Format.{people}
+use Rattle.format.specs.Format.{people, entryIn}
 use Rattle.format.specs.WellFormed.{WellFormed, fine-well-formed}
 use Rattle.format.specs.Record.{Record, RecordIs, numberIf}
 use Rattle.stable_theory.specs.Stable.Market.{exchange}
@@ -20,6 +20,8 @@ use Rattle.stable_theory.specs.Repairs.Answer.{answerOf, SameAnswer}
 use Rattle.matchings.specs.declared.places.Judged.{Judged}
 use Rattle.matchings.specs.BookMarket.{market, market-proper}
 use Rattle.matchings.specs.Matching.{vectorOf, checkMatching}
+use Rattle.matchings.specs.Partners.{manOrNobody, PartnersIs}
+use Rattle.matchings.specs.Laws.Partners.{his-row, hers-entry}
 use Rattle.matchings.specs.Laws.StableCheck.{fine-stable}
 use Rattle.matchings.specs.Laws.StableVector.{fine-vector}
 use Rattle.instances.specs.Usable.{Usable, marketIn}
@@ -44,16 +46,31 @@ module _ {b m : List ℕ} {R : Record} {j : Judged} (J : BookJudged b m R j) (f 
   pub judged-number : R .n ≡ people b
   judged-number = judged-tables .number
 
-  -- and there is an entry for each man
-  pub judged-long : R .n ≤ length m
-  judged-long = omega (arith, judged-number, fine-stable b m .0 f .matching .long)
-
   -- so it is usable, and its market is alike to the book's
   pub judged-usable : Usable R
   judged-usable = usable judged-formed judged-tables
 
   pub judged-alike : Alike (marketIn R) (market b)
   judged-alike = usable-alike judged-formed judged-tables
+
+  -- the record of the matching
+  pub judged-partners : PartnersIs (R .n) m (j .partners)
+  judged-partners = let P : PartnersIs (people b) m (j .partners) = rw f at (J .judged .partners) in rw judged-number P
+
+  -- has on the students' side the matching
+  pub judged-long-his : R .n ≤ length (j .partners .his)
+  judged-long-his = omega (arith, judged-usable .few, judged-partners .his .long)
+
+  pub judged-his : take (R .n) (j .partners .his) ≡ m
+  judged-his =
+      his-row judged-partners (fine-stable b m .0 f .matching .long ∙ sym judged-number) (judged-usable .few)
+
+  -- and on the mentors' side the student of each
+  pub judged-long-hers : R .n ≤ length (j .partners .hers)
+  judged-long-hers = omega (arith, judged-usable .few, judged-partners .hers .long)
+
+  pub judged-hers : {w : ℕ} → w < R .n → entryIn (j .partners .hers) w ≡ manOrNobody (R .n) m w
+  judged-hers u = hers-entry judged-partners u
 
   -- and the two vectors are those of the matching
   here : {i : ℕ} → i < R .n → i < numberIf (checkMatching b m) (people b)

@@ -1,6 +1,6 @@
 -- Weights that are all 1, with which the total weight of those who move is their number. Assumes nothing.
 use Prim.Native.Nat.{ℕ, _≤_, _<_, min}
-use mathlib.Core.Path.{_≡_, sym, _∙_}
+use mathlib.Core.Path.{_≡_, _∙_}
 use mathlib.Core.List.{List}
 use native.Mathlib.Omega.{arith}
 use lib.ListN.{length, take, replicate, length-replicate, getD-replicate, List·getD-eq-default}
@@ -9,10 +9,10 @@ use Rattle.laws.specs.Choice.{split}
 use Rattle.laws.specs.Values.{vec}
 use Rattle.format.specs.Verdict.{fine}
 use Rattle.format.specs.Format.{largest, people}
-use Rattle.matchings.specs.Matching.{womanOf, checkMatching}
+use Rattle.matchings.specs.Matching.{checkMatching}
 use Rattle.matchings.specs.Laws.StableCheck.{fine-stable}
 use Rattle.repairs.specs.Laws.UnitWeights.{UnitWeights}
-use Rattle.weights.specs.Weights.{WeightsGiven}
+use Rattle.weights.specs.Weights.{Light}
 
 -- a 1 for each of the largest n
 abbrev pub ones : List ℕ
@@ -42,17 +42,9 @@ ones-most n i h =
     (λ v. omega (arith, List·getD-eq-default (take n ones) 0 {n = i} (omega (arith, ones-length n h))))
     (λ v. omega (arith, ones-read n i h v))
 
--- they are weights of any matching's students and mentors
-pub ones-given : (m : List ℕ) (n : ℕ) → n ≤ largest → WeightsGiven m (take n ones) ones
-ones-given m n h =
-    record {
-      light = λ i. omega (arith, ones-most n i h);
-      women-light = λ w. omega (arith, ones-light w);
-      women-long = omega (arith, length-replicate {A = ℕ} largest 1);
-      partner = λ k few a b N i u l.
-          let v : i < n = omega (arith, ones-length n h) in
-          ones-at (womanOf m i) (omega arith) ∙ sym (ones-read n i h v);
-    }
+-- they are weights as the code asks
+pub ones-light-given : (n : ℕ) → n ≤ largest → Light (take n ones)
+ones-light-given n h i = omega (arith, ones-most n i h)
 
 -- and where the matching is not refused, n weights of 1 for the students of the book
 pub ones-unit : (b m : List ℕ) {n : ℕ} → n ≡ min (people b) largest → checkMatching b m ≡ fine → UnitWeights (people b) (take n ones)

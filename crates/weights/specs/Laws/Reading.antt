@@ -1,6 +1,6 @@
--- The steps of the loops that read weights, and what the two make together. Assumes nothing.
+-- The steps of the loop that reads weights, and what it makes. Assumes nothing.
 use Prim.Native.Nat.{ℕ, _+_, _≤_, _<_, min}
-use mathlib.Core.Path.{_≡_, sym, _∙_, ap, subst}
+use mathlib.Core.Path.{_≡_, sym, _∙_, ap}
 use mathlib.Core.List.{List}
 use native.Mathlib.Omega.{arith}
 use lib.ListN.{length, set, take, replicate, length-set, length-take, length-replicate, List·getD-eq-default}
@@ -10,13 +10,8 @@ use Rattle.laws.specs.Cut.{take-most}
 use Rattle.laws.specs.Front.{front-more}
 use Rattle.laws.specs.Table.{zeros-read}
 use Rattle.laws.specs.Values.{vec}
-use Rattle.format.specs.declared.people.Partner.{Partner}
-use Rattle.format.specs.declared.people.Partner.the-variants.{With, Alone}
-use Rattle.format.specs.declared.people.Woman.{Woman}
-use Rattle.format.specs.Format.{largest, nobody}
-use Rattle.format.specs.Partner.{PartnerIs}
-use Rattle.matchings.specs.Matching.{womanOf}
-use Rattle.weights.specs.Weights.{Once, WeightsGiven, MenWeighed, WomenWeighed}
+use Rattle.format.specs.Format.{largest}
+use Rattle.weights.specs.Weights.{Light, MenWeighed}
 
 -- a list of weights after a store of one
 light-set : (l : List ℕ) {i x : ℕ} → i < length l → x ≤ 255 → ((v : ℕ) → vec l v ≤ 255) → (v : ℕ) → vec (set l i x) v ≤ 255
@@ -45,52 +40,6 @@ men-on {weights} {men} {k} {x} F u e h =
       read = front-more (vec weights) men k x (omega (arith, F .long)) e (F .read);
     }
 
--- the entry of a man who has a woman, and of one who is alone
-module _ {x : ℕ} {p : Partner} (H : PartnerIs x p) where
-  pub with-entry : {w : Woman} → p ≡ With w → x ≡ w .0
-  with-entry {w} e = let P : PartnerIs x (With w) = rw e at H in P .0
-
-  pub alone-entry : p ≡ Alone → x ≡ nobody
-  alone-entry e = rw e at H
-
-module _ {m men : List ℕ} {n : ℕ} where
-  -- no woman has a weight yet
-  pub women-start : WomenWeighed m men n 0 (replicate largest 0)
-  women-start =
-      record {
-        long = length-replicate {A = ℕ} largest 0;
-        light = λ h w. omega (arith, zeros-read largest w);
-        stored = λ N i u. absurd (omega arith);
-      }
-
-  -- man i
-  module _ {women : List ℕ} {i next : ℕ} (F : WomenWeighed m men n i women) (u : i < n) (r : next ≡ i + 1) where
-    -- his woman gets his weight
-    pub women-on : {k w : ℕ} → k ≡ i → w ≡ womanOf m i → w < largest → WomenWeighed m men n next (set women w (vec men k))
-    women-on {k} {w} at e h =
-        rw (r, at)
-        (record {
-          long = length-set women w (vec men i) ∙ F .long;
-          light = λ g. light-set women (omega (arith, F .long)) (g i) (F .light g);
-          stored = λ N j v l.
-              same (womanOf m j) w
-              (λ z.
-              let q : j ≡ i = N j i (omega arith) u l (z ∙ e) in
-              ap (vec (set women w (vec men i))) z ∙ getD-set-same women w (vec men i) 0 (omega (arith, F .long)) ∙ ap (vec men) (sym q))
-              (λ ne.
-              getD-set-other women w (womanOf m j) (vec men i) 0 ne
-              ∙ F .stored N j (same j i (λ q. absurd (ne (ap (womanOf m) q ∙ sym e))) (λ d. omega arith)) l);
-        })
-
-    -- or he has none below n
-    pub women-out : n ≤ womanOf m i → WomenWeighed m men n next women
-    women-out h =
-        record {
-          long = F .long;
-          light = F .light;
-          stored = λ N j v l. F .stored N j (same j i (λ q. absurd (omega (arith, ap (womanOf m) q))) (λ d. omega arith)) l;
-        }
-
 module _ {weights men : List ℕ} {count : ℕ} (c : count ≡ min (largest + 1) (length weights)) (M : MenWeighed weights count men) where
   -- what is read is the front of the weights
   pub weights-same : take count men ≡ take (largest + 1) weights
@@ -102,18 +51,9 @@ module _ {weights men : List ℕ} {count : ℕ} (c : count ≡ min (largest + 1)
       getD-take count men i 0 v ∙ M .read i v ∙ sym (getD-take count weights i 0 v))
       ∙ ap (λ (j : ℕ). take j weights) c ∙ take-most weights (largest + 1)
 
-  -- and with what the women have of it, weights as the code hands them on
-  pub weights-given :
-      {m women : List ℕ} {n : ℕ} → n ≡ min (min count (length m)) largest → WomenWeighed m men n n women → WeightsGiven m (take count men) women
-  weights-given {m} {women} {n} e W =
-      record {
-        light = λ i.
-            split count i
-            (λ h. omega (arith, List·getD-eq-default (take count men) 0 {n = i} (omega (arith, length-take count men))))
-            (λ h. omega (arith, getD-take count men i 0 h, M .light i));
-        women-light = W .light (M .light);
-        women-long = omega (arith, W .long);
-        partner = λ n′ few a b N i u l.
-            let q : n′ ≡ n = omega (arith, length-take count men, M .long) in
-            W .stored (subst (λ (z : ℕ). Once z m) q N) i (omega arith) (omega arith) ∙ sym (getD-take count men i 0 (omega arith));
-      }
+  -- and none of it is over a byte
+  pub weights-light : Light (take count men)
+  weights-light i =
+      split count i
+      (λ h. omega (arith, List·getD-eq-default (take count men) 0 {n = i} (omega (arith, length-take count men))))
+      (λ h. omega (arith, getD-take count men i 0 h, M .light i))

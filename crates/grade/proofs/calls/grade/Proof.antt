@@ -7,7 +7,7 @@ use lib.ListN.{take}
 use borrow.Author.Needs.{needs}
 use Rattle.format.specs.Format.{largest}
 use Rattle.repairs.specs.Laws.UnitWeights.{unit-grade}
-use Rattle.weights.specs.Laws.Ones.{ones, ones-length, ones-given, ones-unit}
+use Rattle.weights.specs.Laws.Ones.{ones, ones-length, ones-light-given, ones-unit}
 use Rattle.grade.proofs.calls.grade.Statement.{statement}
 use Rattle.grade.proofs.calls.grade.Tie as tie
 
@@ -19,7 +19,7 @@ slice-aggregate-grade-by : tie.Need-slice-aggregate-grade-by
 slice-aggregate-grade-by c = let n : tie.After-student-count = search in sym (ones-length _ (few n))
 
 grade-by-requires : tie.Need-grade-by-requires
-grade-by-requires c κs = let n : tie.After-student-count = search in ones-given _ _ (few n)
+grade-by-requires c κs = let n : tie.After-student-count = search in ones-light-given _ (few n)
 
 returns : tie.Need-returns
 returns c =

@@ -11,7 +11,7 @@ use Rattle.format.specs.Verdict.{Verdict, verdictOf}
 use Rattle.stability.specs.Judge.{EachBook}
 use Rattle.repairs.specs.Grade.{allFixed}
 use Rattle.nearest.specs.Laws.Book.{judged-usable, judged-given, grade-book}
-use Rattle.nearest.specs.Laws.Weighed.{Allowed, weights-told, weights-allowed, allowed-weighed}
+use Rattle.nearest.specs.Laws.Weighed.{Allowed, weights-told, weights-allowed, allowed-weighable, allowed-weighed}
 use Rattle.grade.proofs.robustness.grade_in.Statement.{statement}
 use Rattle.grade.proofs.robustness.grade_in.Tie as tie
 
@@ -45,13 +45,19 @@ returns c =
     let e = ap verdictOf (c .before .enum-told2 .given .1) in
     λ b B. after-refused (sym (weights-told (before d .judge .ensures) _ (d .check-weights .ensures) b B) ∙ e) _ (c .ungraded .ensures ∙ ap (λ (v : Verdict). after v allFixed) e)
 
+weigh-women-requires : tie.Need-weigh-women-requires
+weigh-women-requires c κs =
+    let t : tie.After-enum-told = search in
+    allowed-weighable (allowed t _ (start (stable t) .pre .0 .recorded))
+
 answer-pairs-requires : tie.Need-answer-pairs-requires
 answer-pairs-requires c κs =
+    let w : tie.After-weigh-women = search in
     let t : tie.After-enum-told = search in
     let s = start (stable t) in
     let A = allowed t _ (s .pre .0 .recorded) in
     let G = judged-given (A .judged) (A .stable) in
-    ((judged-usable (A .judged) (A .stable), G, allowed-weighed A (s .pre .1)), omega (arith, G .few))
+    ((judged-usable (A .judged) (A .stable), G, allowed-weighed A (s .pre .1) (w .weigh-women .ensures)), omega (arith, G .few))
 
 returns-2 : tie.Need-returns-2
 returns-2 c =
@@ -71,6 +77,9 @@ grade-in-spec =
     (λ c. search needs)
     (λ c κs. search needs)
     returns
+    (λ c. search needs)
+    weigh-women-requires
+    (λ c. search needs)
     (λ c. search needs)
     (λ c. search needs)
     answer-pairs-requires

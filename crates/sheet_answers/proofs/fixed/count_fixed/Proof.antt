@@ -13,11 +13,11 @@ use Rattle.sheet_answers.proofs.fixed.count_fixed.Statement.{statement}
 use Rattle.sheet_answers.proofs.fixed.count_fixed.Tie as tie
 
 abbrev Inv-loop : tie.InvT-loop
-Inv-loop n matching letters fixed₀ man₀ fixed man =
-    (man .0 ≤ n) × Counted (λ s. inFixedPair (womanOf matching s) (vec letters s)) (man .0) fixed
+Inv-loop n his letters fixed₀ man₀ fixed man =
+    (man .0 ≤ n) × Counted (λ s. inFixedPair (womanOf his s) (vec letters s)) (man .0) fixed
 
 abbrev μ-loop : tie.MeasureT-loop
-μ-loop n matching letters fixed₀ man₀ fixed man = n - man .0
+μ-loop n his letters fixed₀ man₀ fixed man = n - man .0
 
 -- the places where the function begins, at the loop, in it, and where the man's index is known
 abbrev start : tie.At-loop Inv-loop μ-loop → tie.Start Inv-loop μ-loop
@@ -68,14 +68,14 @@ asked :
     (c : tie.After-is-fixed Inv-loop μ-loop) →
     let l = at-loop (in-loop (index c)) in
     let a = start l .args in
-    inFixedPair (womanOf (now (a .matching)) (l .loop .man .0)) (vec (now (a .letters)) (l .loop .man .0)) ≡ c .is-fixed .result
+    inFixedPair (womanOf (now (a .his)) (l .loop .man .0)) (vec (now (a .letters)) (l .loop .man .0)) ≡ c .is-fixed .result
 asked c =
     let i = index c in
     let l = at-loop (in-loop i) in
     let a = start l .args in
     sym
     (c .is-fixed .ensures
-    ∙ ap (λ (k : ℕ). inFixedPair (womanOf (now (a .matching)) (l .loop .man .0)) (vec (now (a .letters)) k)) (i .wide2 .ensures .0))
+    ∙ ap (λ (k : ℕ). inFixedPair (womanOf (now (a .his)) (l .loop .man .0)) (vec (now (a .letters)) k)) (i .wide2 .ensures .0))
 
 loop-again : tie.Need-loop-again Inv-loop μ-loop
 loop-again c =
@@ -94,7 +94,7 @@ returns c =
     let l : tie.At-loop Inv-loop μ-loop = search in
     let a = start l .args in
     let e : l .loop .man .0 ≡ a .n = omega (arith, w .wide .ensures .0, c .before .if1 .left, l .loop .inv .0) in
-    c .wide3 .ensures .0 ∙ l .loop .inv .1 .is ∙ ap (λ (k : ℕ). fixedAmong k (now (a .matching)) (vec (now (a .letters)))) e
+    c .wide3 .ensures .0 ∙ l .loop .inv .1 .is ∙ ap (λ (k : ℕ). fixedAmong k (now (a .his)) (vec (now (a .letters)))) e
 
 pub count-fixed-spec : {M : Type 1} → statement M
 count-fixed-spec =

@@ -11,7 +11,7 @@ use Rattle.format.specs.Format.{largest}
 use Rattle.sheets.specs.UnitWeights.{unit-sheet}
 use Rattle.sheet_text.specs.Laws.Put.{put-as}
 use Rattle.sheet_answers.specs.Laws.Short.{unit-short, parts-short}
-use Rattle.weights.specs.Laws.Ones.{ones, ones-length, ones-given, ones-unit, ones-most}
+use Rattle.weights.specs.Laws.Ones.{ones, ones-length, ones-light-given, ones-unit, ones-most}
 use Rattle.sheet_lines.specs.Room.{Room}
 use Rattle.sheet_lines.specs.Laws.Parts.{rest, end-within, sheet-parts}
 use Rattle.sheet_lines.proofs.calls.put_plain.Statement.{statement}
@@ -32,7 +32,7 @@ put-sheet-requires c κs =
     let j = n .student-count .result in
     let room : Room (take j ones) (now (s .args .text)) =
     record { refusal = omega (arith, s .pre); sheet = λ b m. omega (arith, s .pre, unit-short b m (take j ones) (λ i. ones-most j i (few n))) } in
-    (ones-given _ _ (few n), room)
+    (ones-light-given _ (few n), room)
 
 returns : tie.Need-returns
 returns c =

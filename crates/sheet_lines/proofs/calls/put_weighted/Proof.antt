@@ -28,7 +28,7 @@ put-sheet-requires c κs =
     let G = w .read-weights .ensures .0 in
     let k = take (w .read-weights .result .count) (w .read-weights .result .men) in
     let room : Room k (now (s .args .text)) =
-    record { refusal = omega (arith, s .pre); sheet = λ b m. omega (arith, s .pre, weighted-short b m k (G .light)) } in
+    record { refusal = omega (arith, s .pre); sheet = λ b m. omega (arith, s .pre, weighted-short b m k G) } in
     (G, room)
 
 returns : tie.Need-returns
@@ -48,7 +48,7 @@ returns c =
     let parts = weighted-parts input (e .book-end .ensures) z in
     let q = ap (weightedSheetFor b m) (w .read-weights .ensures .1 .0) ∙ cut-sheet b m (rest past (l .least .result)) ∙ sym parts in
     let P = put-as q (p .put-sheet .ensures) in
-    (P, omega (arith, P .next, ap length q, weighted-short b m k (w .read-weights .ensures .0 .light)))
+    (P, omega (arith, P .next, ap length q, weighted-short b m k (w .read-weights .ensures .0)))
 
 pub put-weighted-spec : {M : Type 1} → statement M
 put-weighted-spec =
@@ -66,7 +66,6 @@ put-weighted-spec =
     (λ c. search needs)
     (λ c. search needs)
     (λ c κs. search needs)
-    (λ c. search needs)
     (λ c. search needs)
     (λ c. search needs)
     put-sheet-requires

@@ -1,16 +1,18 @@
 -- `put_judged` meets its contract: the line of the refusal, or the answers where the check refused nothing. `whole`
 -- says that the sheet over what the check leaves is the sheet. Assumes nothing.
+use Prim.Native.Nat.{_≤_}
 use mathlib.Core.Path.{_≡_, sym, _∙_, ap}
 use native.Mathlib.Omega.{arith}
 use denote.Ref.{now}
-use lib.ListN.{length}
+use lib.ListN.{length, take}
+use lib.Seq.{length-take-le}
 use borrow.Author.Needs.{needs}
 use Rattle.format.specs.Record.{Record, lent}
 use Rattle.format.specs.Verdict.{verdictOf}
 use Rattle.stability.specs.Judge.{EachBook}
 use Rattle.repairs.specs.Weights.{weightOf}
-use Rattle.nearest.specs.Laws.Book.{judged-long, judged-given, judged-usable}
-use Rattle.nearest.specs.Laws.Weighed.{Allowed, weights-told, weights-allowed, allowed-weighed}
+use Rattle.nearest.specs.Laws.Book.{judged-partners, judged-long-his, judged-his, judged-given, judged-usable}
+use Rattle.nearest.specs.Laws.Weighed.{Allowed, weights-told, weights-allowed, allowed-weighable, allowed-weighed}
 use Rattle.sheets.specs.Sheet.{weightedSheetFor}
 use Rattle.sheet_answers.specs.Over.{sheetOver}
 use Rattle.sheet_answers.specs.Laws.Over.{sheet-over}
@@ -42,13 +44,25 @@ allowed :
     EachBook (s .args .answer) (s .args .partial) (made s) (λ b. Allowed b (now (s .args .matching)) (now (s .args .weights)) (made s) (stable c .judge .result))
 allowed c = weights-allowed (stable c .judge .ensures) _ (weighed c .check-weights .ensures) (ap verdictOf (c .enum-told .given .1))
 
+kept :
+    (c : tie.After-enum-told) →
+    let s = start (stable c) in
+    Allowed (s .pre .0 .book) (now (s .args .matching)) (now (s .args .weights)) (made s) (stable c .judge .result)
+kept c = allowed c _ (start (stable c) .pre .0 .recorded)
+
 whole :
     (c : tie.After-enum-told) →
     let s = start (stable c) in
     let m = now (s .args .matching) in
     let k = now (s .args .weights) in
-    EachBook (s .args .answer) (s .args .partial) (made s) (λ b. sheetOver (made s) (weightOf k) (stable c .judge .result .places) m ≡ weightedSheetFor b m k)
-whole c b B = let A = allowed c b B in sheet-over (A .judged) (A .stable) _ ∙ sym (sheet-answers b _ _ (A .weighed))
+    let j = stable c .judge .result in
+    EachBook (s .args .answer) (s .args .partial) (made s)
+    (λ b. sheetOver (made s) (weightOf k) (j .places) (take (s .args .n) (j .partners .his)) ≡ weightedSheetFor b m k)
+whole c b B =
+    let A = allowed c b B in
+    let s = start (stable c) in
+    let places = stable c .judge .result .places in
+    ap (sheetOver (made s) (weightOf (now (s .args .weights))) places) (judged-his (A .judged) (A .stable)) ∙ sheet-over (A .judged) (A .stable) _ ∙ sym (sheet-answers b _ _ (A .weighed))
 
 returns : tie.Need-returns
 returns c =
@@ -59,16 +73,33 @@ returns c =
     rw (sheet-refusal b _ _ (weights-told (before d .judge .ensures) _ (d .check-weights .ensures) b B) (t .enum-told2 .given .1))
     (p .put-refused .ensures)
 
+-- the student's side of the record has n entries
+long : (c : tie.After-enum-told) → let s = start (stable c) in s .args .n ≤ length (stable c .judge .result .partners .his)
+long c = judged-long-his (kept c .judged) (kept c .stable)
+
+slice-aggregate-weigh-women : tie.Need-slice-aggregate-weigh-women
+slice-aggregate-weigh-women c =
+    let t : tie.After-enum-told = search in
+    sym (judged-partners (kept t .judged) (kept t .stable) .hers .long)
+
+weigh-women-requires : tie.Need-weigh-women-requires
+weigh-women-requires c κs =
+    let t : tie.After-enum-told = search in
+    allowed-weighable (kept t)
+
 put-answers-requires : tie.Need-put-answers-requires
 put-answers-requires c κs =
+    let w : tie.After-weigh-women = search in
     let t : tie.After-enum-told = search in
     let s = start (stable t) in
-    let B = s .pre .0 .recorded in
-    let A = allowed t _ B in
+    let A = kept t in
     let J = A .judged in
     let f = A .stable in
     let fits = s .pre .1 .1 .sheet (s .pre .0 .book) (now (s .args .matching)) in
-    ((judged-usable J f, judged-given J f, allowed-weighed A (s .pre .1 .0)), (judged-long J f, omega (arith, ap length (whole t _ B), fits)))
+    let l = length-take-le (s .args .n) (stable t .judge .result .partners .his) (long t) in (
+      (judged-usable J f, judged-given J f, allowed-weighed A (s .pre .1 .0) (w .weigh-women .ensures)),
+      (omega (arith, l), omega (arith, ap length (whole t _ (s .pre .0 .recorded)), fits)),
+    )
 
 returns-2 : tie.Need-returns-2
 returns-2 c =
@@ -87,6 +118,11 @@ put-judged-spec =
     (λ c κs. search needs)
     (λ c. search needs)
     returns
+    slice-aggregate-weigh-women
+    weigh-women-requires
+    (λ c. search needs)
+    (λ c. let t : tie.After-enum-told = search in long t)
+    (λ c. let t : tie.After-enum-told = search in sym (length-take-le _ _ (long t)))
     put-answers-requires
     (λ c. search needs)
     returns-2)

@@ -18,7 +18,7 @@ start c = search
 
 -- his line, as the contract has it
 abbrev lineOf : tie.Start → List ℕ
-lineOf s = studentLine (s .args .man .0) (entryIn (now (s .args .matching)) (s .args .man .0)) (s .args .letter) (s .args .distance)
+lineOf s = studentLine (s .args .man .0) (entryIn (now (s .args .his)) (s .args .man .0)) (s .args .letter) (s .args .distance)
 
 pair-line : (c : tie.After-partner) →
     let p : tie.After-partner-of = search in

@@ -9,11 +9,11 @@ use Rattle.sheet_text.proofs.lines.put_lines.Statement.{statement}
 use Rattle.sheet_text.proofs.lines.put_lines.Tie as tie
 
 abbrev Inv-loop : tie.InvT-loop
-Inv-loop out₀ at n matching letters distances end₀ man₀ out end man =
-    LinesPut (entryIn matching) (vec letters) (vec distances) n out₀ at (man .0) out end
+Inv-loop out₀ at n his letters distances end₀ man₀ out end man =
+    LinesPut (entryIn his) (vec letters) (vec distances) n out₀ at (man .0) out end
 
 abbrev μ-loop : tie.MeasureT-loop
-μ-loop out₀ at n matching letters distances end₀ man₀ out end man = n - man .0
+μ-loop out₀ at n his letters distances end₀ man₀ out end man = n - man .0
 
 -- the places where the function begins, at the loop, in it, and where the man's index is known
 abbrev start : tie.At-loop Inv-loop μ-loop → tie.Start Inv-loop μ-loop
