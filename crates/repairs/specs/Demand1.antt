@@ -1,6 +1,6 @@
 -- Demand 1 of a repair: a refusal leaves the lent result buffers unchanged; and the refusals of requests that name
--- nobody, or a student without a mentor. b is the book, m the given matching, q the request, k the weights. Assumes
--- nothing.
+-- nobody, or a student without a mentor. b is the book, m the given matching, q the request, w a mentor who asks, k the
+-- weights. Assumes nothing.
 use Prim.Native.Nat.{ℕ, _<_}
 use mathlib.Core.Path.{_≡_, sym, _∙_}
 use mathlib.Core.List.{List}
@@ -10,13 +10,16 @@ use lib.IntN.{ℤ}
 use Rattle.format.specs.Verdict.{fine, refused, broken}
 use Rattle.format.specs.Laws.Verdict.{goes-on}
 use Rattle.format.specs.Format.{people, nobody, pairRow}
-use Rattle.format.specs.Laws.Outcome.{filled-refused}
+use Rattle.format.specs.Outcome.{refusal}
+use Rattle.format.specs.Laws.Outcome.{filled-refused, refusal-held}
 use Rattle.matchings.specs.Matching.{checkMatching, womanOf}
 use Rattle.matchings.specs.Laws.Entries.{nobody-most}
 use Rattle.matchings.specs.Laws.StableCheck.{fine-stable}
 use Rattle.repairs.specs.Laws.Request.{pair-11, pair-12}
 use Rattle.repairs.specs.Request.{checkRequest, checkWeightedRequest}
 use Rattle.repairs.specs.Repair.{repairMatching, repairGains, weightedMatching, weightedGains}
+use Rattle.repairs.specs.Mentor.{requestOf, checkAsking, checkWeightedAsking, mentorReply, mentorMatching, mentorGains}
+use Rattle.repairs.specs.Mentor.{weightedMentorReply, weightedMentorMatching, weightedMentorGains}
 
 -- Where a rule is broken, the matching's buffer and that of the places gained hold what they held
 pub refused-unchanged :
@@ -31,6 +34,26 @@ pub weighted-refused-unchanged :
     checkWeightedRequest b m k q (length out) (length gains) ≡ refused number place second →
     (weightedMatching b m k q out gains ≡ out) × (weightedGains b m k q out gains ≡ gains)
 weighted-refused-unchanged b m k q out gains e = (sym (filled-refused e _ _ out), sym (filled-refused e _ _ gains))
+
+-- The same where a mentor asks: her number is refused, or the request for her pair
+pub mentor-refused-unchanged :
+    (b m : List ℕ) (w : ℕ) (out : List ℕ) (gains : List ℤ) {number place second : ℕ} →
+    mentorReply b m w out gains ≡ refusal number place second →
+    (mentorMatching b m w out gains ≡ out) × (mentorGains b m w out gains ≡ gains)
+mentor-refused-unchanged b m w out gains e =
+    let v = checkAsking b m w in
+    let u = checkRequest b m (requestOf b m w) (length out) (length gains) in
+    (refusal-held v u _ e _ _ out, refusal-held v u _ e _ _ gains)
+
+-- with weights too
+pub weighted-mentor-refused-unchanged :
+    (b m k : List ℕ) (w : ℕ) (out : List ℕ) (gains : List ℤ) {number place second : ℕ} →
+    weightedMentorReply b m k w out gains ≡ refusal number place second →
+    (weightedMentorMatching b m k w out gains ≡ out) × (weightedMentorGains b m k w out gains ≡ gains)
+weighted-mentor-refused-unchanged b m k w out gains e =
+    let v = checkWeightedAsking b m k w in
+    let u = checkWeightedRequest b m k (requestOf b m w) (length out) (length gains) in
+    (refusal-held v u _ e _ _ out, refusal-held v u _ e _ _ gains)
 
 -- A student and a mentor asked for together, in a stable matching m
 module _ (b m : List ℕ) (stable : checkMatching b m ≡ fine) (s : ℕ) (room gainsRoom : ℕ) where

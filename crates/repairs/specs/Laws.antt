@@ -1,4 +1,5 @@
--- What Demand3 cites: the theory's repairs and its grade as bytes, and that there is one repair. Assumes nothing.
+-- What the demands cite: the theory's repairs and its grade as bytes, that there is one repair, and the replies to
+-- mentors. Assumes nothing.
 pub mod Bytes
 pub mod RepairBytes
 pub mod AnswerBytes
@@ -13,3 +14,4 @@ pub mod GradeBound
 pub mod GradeSentence
 pub mod SameWeights
 pub mod UnitWeights
+pub mod Mentor

@@ -2,9 +2,11 @@
 pub mod Weights
 pub mod Request
 pub mod Repair
+pub mod Mentor
 pub mod Grade
 pub mod Promise
 pub mod Demand1
 pub mod Demand3
 pub mod WeightedDemand3
+pub mod MentorDemand
 pub mod Laws
