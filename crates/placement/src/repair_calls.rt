@@ -1,10 +1,12 @@
-// Repairs: that of one pair, and the grade.
+// Repairs: that of one pair, asked for by a request or by the mentor of the pair; and the grade.
+use format::Woman;
 use replies::Reply;
 use replies::answer_reply;
 use replies::grade_reply;
 ghost use mathlib.Core.Path.{_≡_};
 ghost use Rattle.laws.specs.Moment.{now₀, now₁};
 ghost use Rattle.repairs.specs.Repair.{repairReply, repairMatching, repairGains};
+ghost use Rattle.repairs.specs.Mentor.{mentorReply, mentorMatching, mentorGains};
 ghost use Rattle.repairs.specs.Grade.{gradeReply};
 ghost use Rattle.replies.specs.Replies.{gradedReply, letterReply};
 
@@ -22,6 +24,24 @@ pub extern "C" fn placement_repair(
     ensures places { λ _. ⌜ now₁ gains ≡ repairGains (now₀ book) (now₀ matching) (now₀ request) (now₀ out) (now₀ gains) ⌝ }
 {
     let answer = repair::repair(book, matching, request, out, gains);
+    answer_reply(answer)
+}
+
+// The repair of a mentor's pair, who gives her number: the answer to the request that names her student and her.
+#[no_mangle]
+pub extern "C" fn placement_repair_mentor(
+    book: &[u8],
+    matching: &[u8],
+    mentor: u8,
+    out: &mut [u8],
+    gains: &mut [i8],
+) -> Reply
+    ensures answer { λ r. ⌜ r ≡ letterReply (mentorReply (now₀ book) (now₀ matching) mentor (now₀ out) (now₀ gains)) ⌝ }
+    ensures bytes { λ _. ⌜ now₁ out ≡ mentorMatching (now₀ book) (now₀ matching) mentor (now₀ out) (now₀ gains) ⌝ }
+    ensures places { λ _. ⌜ now₁ gains ≡ mentorGains (now₀ book) (now₀ matching) mentor (now₀ out) (now₀ gains) ⌝ }
+{
+    let woman = Woman(mentor);
+    let answer = repair::repair_mentor(book, matching, woman, out, gains);
     answer_reply(answer)
 }
 

@@ -1,4 +1,5 @@
 // Repairs, the grade and the sheet with a weight for each student.
+use format::Woman;
 use replies::Reply;
 use replies::answer_reply;
 use replies::count_reply;
@@ -7,6 +8,7 @@ ghost use mathlib.Core.Path.{_≡_};
 ghost use lib.ListN.{length};
 ghost use Rattle.laws.specs.Moment.{now₀, now₁};
 ghost use Rattle.repairs.specs.Repair.{weightedReply, weightedMatching, weightedGains};
+ghost use Rattle.repairs.specs.Mentor.{weightedMentorReply, weightedMentorMatching, weightedMentorGains};
 ghost use Rattle.repairs.specs.Grade.{weightedGrade};
 ghost use Rattle.sheets.specs.Reply.{weightedSheetReply, weightedSheetBuffer};
 ghost use Rattle.replies.specs.Replies.{numberReply, gradedReply, letterReply};
@@ -29,6 +31,28 @@ pub extern "C" fn placement_weighted_repair(
         (now₀ gains) ⌝ }
 {
     let answer = repair::weighted_repair(book, matching, weights, request, out, gains);
+    answer_reply(answer)
+}
+
+// The repair of a mentor's pair, who gives her number: the answer to the request that names her student and her.
+#[no_mangle]
+pub extern "C" fn placement_weighted_repair_mentor(
+    book: &[u8],
+    matching: &[u8],
+    weights: &[u8],
+    mentor: u8,
+    out: &mut [u8],
+    gains: &mut [i8],
+) -> Reply
+    ensures answer { λ r. ⌜ r ≡ letterReply (weightedMentorReply (now₀ book) (now₀ matching) (now₀ weights) mentor (now₀ out)
+        (now₀ gains)) ⌝ }
+    ensures bytes { λ _. ⌜ now₁ out ≡ weightedMentorMatching (now₀ book) (now₀ matching) (now₀ weights) mentor (now₀ out)
+        (now₀ gains) ⌝ }
+    ensures places { λ _. ⌜ now₁ gains ≡ weightedMentorGains (now₀ book) (now₀ matching) (now₀ weights) mentor (now₀ out)
+        (now₀ gains) ⌝ }
+{
+    let woman = Woman(mentor);
+    let answer = repair::weighted_repair_mentor(book, matching, weights, woman, out, gains);
     answer_reply(answer)
 }
 

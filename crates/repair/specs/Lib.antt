@@ -1,4 +1,6 @@
--- The repair of a pair: Partner and Repaired have what contracts cite, Laws what only proofs cite. Assumes nothing.
+-- The repair of a pair: Partner, Asked and Repaired have what contracts cite, Laws what only proofs cite. Assumes
+-- nothing.
 pub mod Partner
+pub mod Asked
 pub mod Repaired
 pub mod Laws

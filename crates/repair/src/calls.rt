@@ -1,4 +1,5 @@
-// The two calls for the repair of a pair: where every student counts 1, and with weights.
+// The two calls for the repair of the pair that a request names: where every student counts 1, and with weights.
+use crate::asked::asked_in;
 use crate::pair::repair_by;
 use format::Instance;
 use repairs::Answer;
@@ -26,7 +27,8 @@ pub fn repair(
     let ones = [1u32; Instance::LARGEST];
     let all = &ones[..];
     let n = student_count(book);
-    repair_by(book, matching, &all[..n], all, request, out, gains)
+    let asked = asked_in(request);
+    repair_by(book, matching, &all[..n], asked, out, gains)
 }
 
 // The same with a weight for each student, one byte each: the total weight of the students moved in place of their
@@ -46,16 +48,8 @@ pub fn weighted_repair(
     ensures places { λ _. ⌜ now₁ gains ≡ weightedGains (now₀ book) (now₀ matching) (now₀ weights) (now₀ request) (now₀ out)
         (now₀ gains) ⌝ }
 {
-    let given = read_weights(matching, weights);
+    let given = read_weights(weights);
     let men = given.men;
-    let women = given.women;
-    repair_by(
-        book,
-        matching,
-        &men[..given.count],
-        &women,
-        request,
-        out,
-        gains,
-    )
+    let asked = asked_in(request);
+    repair_by(book, matching, &men[..given.count], asked, out, gains)
 }

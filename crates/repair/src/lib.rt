@@ -1,6 +1,11 @@
-// The repair of one pair, plain and with weights. The calls take bytes and have no `requires`.
+// The repair of one pair, plain and with weights, asked for by a request or by the mentor of the pair. The calls take
+// bytes and have no `requires`.
+mod asked;
 mod calls;
+mod mentor_calls;
 mod pair;
 
 pub use calls::repair;
 pub use calls::weighted_repair;
+pub use mentor_calls::repair_mentor;
+pub use mentor_calls::weighted_repair_mentor;

@@ -1,55 +1,43 @@
-// Repair of a pair with weights: the request's rules, the nearest repair, and the two result buffers.
-//
-// `weights` has the weight of each man, and `wweights` that of each woman's man.
+// Repair of a pair with weights: who is asked for, the nearest repair, and the two result buffers. `weights` has the
+// weight of each man.
+use crate::asked::Asked;
+use crate::asked::Named;
+use crate::asked::named_pair;
 use book::is_small;
 use format::Checked;
 use format::Instance;
-use format::Pair;
-use format::Partner;
-use format::Woman;
 use nearest::nearest;
 use record::load;
 use repairs::Answer;
-use rows::pair_in;
-use rows::partner_of;
-use rows::refuse;
-use rows::wide;
 use stability::judge;
 use weights::check_weights;
+use weights::weigh_women;
 ghost use mathlib.Core.Path.{_≡_};
-ghost use Prim.Native.Nat.{_≤_};
-ghost use lib.ListN.{length};
 ghost use Rattle.laws.specs.Moment.{now₀, now₁};
-ghost use Rattle.format.specs.Format.{largest};
 ghost use Rattle.format.specs.Outcome.{after};
 ghost use Rattle.format.specs.Record.{Record, lent, LongTables};
 ghost use Rattle.format.specs.Verdict.{verdictOf};
 ghost use Rattle.stability.specs.Judge.{FromBook};
-ghost use Rattle.repairs.specs.Repair.{fixed, repairOutcome, weightedReply, weightedMatching, weightedGains};
-ghost use Rattle.repairs.specs.Request.{checkPair};
-ghost use Rattle.weights.specs.Weights.{WeightsGiven};
-ghost use Rattle.repair.specs.Partner.{partnerIs};
-ghost use Rattle.repair.specs.Repaired.{Repairs};
+ghost use Rattle.repairs.specs.Repair.{fixed, repairOutcome};
+ghost use Rattle.weights.specs.Weights.{Light};
+ghost use Rattle.repair.specs.Asked.{namedVerdict};
+ghost use Rattle.repair.specs.Repaired.{askedReply, askedMatching, askedGains, Repairs};
 
-// The repair of the pair that the request names, student then mentor, or the first rule that is broken and where. A
-// repair's matching goes to the front of `out` and each student's places gained to that of `gains`; past n entries,
-// and otherwise, both stay as they were.
+// The repair of the pair that is asked for, or the first rule that is broken and where. A repair's matching goes to the
+// front of `out` and each student's places gained to that of `gains`; past n entries, and otherwise, both stay as they
+// were.
 pub(crate) fn repair_by(
     book: &[u8],
     matching: &[u8],
     weights: &[u32],
-    wweights: &[u32],
-    request: &[u8],
+    asked: Asked,
     out: &mut [u8],
     gains: &mut [i8],
 ) -> Answer
-    requires { ⌜ WeightsGiven (now matching) (now weights) (now wweights) ⌝ }
-    ensures reply { λ r. ⌜ repairOutcome r ≡ weightedReply (now₀ book) (now₀ matching) (now₀ weights) (now₀ request) (now₀ out)
-        (now₀ gains) ⌝ }
-    ensures bytes { λ _. ⌜ now₁ out ≡ weightedMatching (now₀ book) (now₀ matching) (now₀ weights) (now₀ request) (now₀ out)
-        (now₀ gains) ⌝ }
-    ensures places { λ _. ⌜ now₁ gains ≡ weightedGains (now₀ book) (now₀ matching) (now₀ weights) (now₀ request) (now₀ out)
-        (now₀ gains) ⌝ }
+    requires { ⌜ Light (now weights) ⌝ }
+    ensures reply { λ r. ⌜ repairOutcome r ≡ askedReply (now₀ book) (now₀ matching) (now₀ weights) asked (now₀ out) (now₀ gains) ⌝ }
+    ensures bytes { λ _. ⌜ now₁ out ≡ askedMatching (now₀ book) (now₀ matching) (now₀ weights) asked (now₀ out) (now₀ gains) ⌝ }
+    ensures places { λ _. ⌜ now₁ gains ≡ askedGains (now₀ book) (now₀ matching) (now₀ weights) asked (now₀ out) (now₀ gains) ⌝ }
 {
     if is_small(book) {
         let mut mlists = [Instance::VACANT; Instance::SMALL_LISTS];
@@ -64,8 +52,7 @@ pub(crate) fn repair_by(
             &mut wranks,
             matching,
             weights,
-            wweights,
-            request,
+            asked,
             out,
             gains,
         );
@@ -82,8 +69,7 @@ pub(crate) fn repair_by(
         &mut wranks,
         matching,
         weights,
-        wweights,
-        request,
+        asked,
         out,
         gains,
     )
@@ -98,20 +84,16 @@ fn repair_with(
     wranks: &mut [u16],
     matching: &[u8],
     weights: &[u32],
-    wweights: &[u32],
-    request: &[u8],
+    asked: Asked,
     out: &mut [u8],
     gains: &mut [i8],
 ) -> Answer
     requires { ⌜ LongTables (now book) (now mlists) (now mranks) ⌝ }
     requires { ⌜ LongTables (now book) (now wlists) (now wranks) ⌝ }
-    requires { ⌜ WeightsGiven (now matching) (now weights) (now wweights) ⌝ }
-    ensures reply { λ r. ⌜ repairOutcome r ≡ weightedReply (now₀ book) (now₀ matching) (now₀ weights) (now₀ request) (now₀ out)
-        (now₀ gains) ⌝ }
-    ensures bytes { λ _. ⌜ now₁ out ≡ weightedMatching (now₀ book) (now₀ matching) (now₀ weights) (now₀ request) (now₀ out)
-        (now₀ gains) ⌝ }
-    ensures places { λ _. ⌜ now₁ gains ≡ weightedGains (now₀ book) (now₀ matching) (now₀ weights) (now₀ request) (now₀ out)
-        (now₀ gains) ⌝ }
+    requires { ⌜ Light (now weights) ⌝ }
+    ensures reply { λ r. ⌜ repairOutcome r ≡ askedReply (now₀ book) (now₀ matching) (now₀ weights) asked (now₀ out) (now₀ gains) ⌝ }
+    ensures bytes { λ _. ⌜ now₁ out ≡ askedMatching (now₀ book) (now₀ matching) (now₀ weights) asked (now₀ out) (now₀ gains) ⌝ }
+    ensures places { λ _. ⌜ now₁ gains ≡ askedGains (now₀ book) (now₀ matching) (now₀ weights) asked (now₀ out) (now₀ gains) ⌝ }
 {
     let instance = load(book, mlists, mranks, wlists, wranks);
     let answer = instance.checked;
@@ -126,15 +108,14 @@ fn repair_with(
         wranks,
         matching,
         weights,
-        wweights,
-        request,
+        asked,
         out,
         gains,
     )
 }
 
-// The same from what is made of the book: for each book of which that is made. A request of two entries names a pair,
-// whose repairs are both tried.
+// The same from what is made of the book: for each book of which that is made. Where the rules are kept both repairs of
+// the pair are tried.
 fn repair_in<'a>(
     answer: Checked,
     n: usize,
@@ -145,16 +126,15 @@ fn repair_in<'a>(
     wranks: &'a [u16],
     matching: &[u8],
     weights: &[u32],
-    wweights: &[u32],
-    request: &[u8],
+    asked: Asked,
     out: &mut [u8],
     gains: &mut [i8],
 ) -> Answer
     ghost { Record }
     requires { λ R. ⌜ lent n mlists mranks wlists wranks ≡ R ⌝ }
     requires { λ R. ⌜ FromBook answer partial R ⌝ }
-    requires { λ _. ⌜ WeightsGiven (now matching) (now weights) (now wweights) ⌝ }
-    ensures { λ R r. ⌜ Repairs answer partial R (now₀ matching) (now₀ weights) (now₀ request) (now₀ out) (now₀ gains) r
+    requires { λ _. ⌜ Light (now weights) ⌝ }
+    ensures { λ R r. ⌜ Repairs answer partial R (now₀ matching) (now₀ weights) asked (now₀ out) (now₀ gains) r
         (now₁ out) (now₁ gains) ⌝ }
 {
     let judged = judge(answer, n, partial, mlists, mranks, wlists, wranks, matching);
@@ -163,17 +143,17 @@ fn repair_in<'a>(
     let Checked::Fine = checked else {
         return refused(checked);
     };
-    if request.len() != 2 {
-        return refused(refuse(13, 0));
-    }
-    let pair = pair_in(request);
+    let partners = judged.partners;
+    let his = partners.his;
+    let hers = partners.hers;
     let room = out.len();
     let gains_room = gains.len();
-    let asked = check_pair(n, matching, pair, room, gains_room);
-    let Checked::Fine = asked else {
-        return refused(asked);
+    let named = named_pair(n, &his[..n], &hers, asked, room, gains_room);
+    let Named::Pair(pair) = named else {
+        return unanswered(named);
     };
     let asking = pair.man;
+    let wweights = weigh_women(&hers, weights, n);
     let places = judged.places;
     let men = places.men;
     let women = places.women;
@@ -186,7 +166,7 @@ fn repair_in<'a>(
         men,
         women,
         weights,
-        wweights,
+        &wweights,
         asking,
     );
     repair_answer::answer(n, mlists, men, weights, found, out, gains)
@@ -202,37 +182,12 @@ fn refused(checked: Checked) -> Answer
     }
 }
 
-// Whether a partner is this woman: nobody is not.
-fn is_partner(partner: Partner, woman: Woman) -> bool
-    ensures { λ r. ⌜ r ≡ partnerIs partner (woman .0) ⌝ }
+// The same of the pair that is asked for.
+fn unanswered(named: Named) -> Answer
+    ensures { λ r. ⌜ repairOutcome r ≡ after (namedVerdict named) fixed ⌝ }
 {
-    match partner {
-        Partner::With(own) => own.0 == woman.0,
-        Partner::Alone => false,
+    match named {
+        Named::Refused(r) => Answer::Refused(r),
+        Named::Pair(_) => Answer::Fixed,
     }
-}
-
-// Rules 11, 12 and 14 of a pair, for a matching of n men.
-fn check_pair(n: usize, matching: &[u8], pair: Pair, room: usize, gains_room: usize) -> Checked
-    requires { ⌜ (n ≤ largest) × (n ≤ length (now matching)) ⌝ }
-    ensures { λ r. ⌜ verdictOf r ≡ checkPair n (now₀ matching) (pair .man .0) (pair .woman .0) room «gains_room» ⌝ }
-{
-    let man = pair.man;
-    let woman = pair.woman;
-    if n <= wide(man.0) {
-        return refuse(11, 0);
-    }
-    if n <= wide(woman.0) {
-        return refuse(11, 0);
-    }
-    if !is_partner(partner_of(matching, man), woman) {
-        return refuse(12, 0);
-    }
-    if room < n {
-        return refuse(14, 0);
-    }
-    if gains_room < n {
-        return refuse(14, 0);
-    }
-    Checked::Fine
 }

@@ -1,5 +1,5 @@
--- `repair` meets its contract: with a weight of 1 for each student the weighted reply is the plain one. Assumes
--- nothing.
+-- `repair` meets its contract: who is asked for has the reply to the request, and with a weight of 1 for each student
+-- that is the plain one. Assumes nothing.
 use Prim.Native.Nat.{_≤_}
 use mathlib.Core.Path.{sym, _∙_}
 use native.Mathlib.Omega.{arith}
@@ -8,7 +8,8 @@ use lib.ListN.{take}
 use borrow.Author.Needs.{needs}
 use Rattle.format.specs.Format.{largest}
 use Rattle.repairs.specs.Laws.UnitWeights.{unit-reply, unit-matching, unit-gains}
-use Rattle.weights.specs.Laws.Ones.{ones, ones-length, ones-given, ones-unit}
+use Rattle.weights.specs.Laws.Ones.{ones, ones-length, ones-light-given, ones-unit}
+use Rattle.repair.specs.Laws.Requests.{request-reply, request-matching, request-gains}
 use Rattle.repair.proofs.calls.repair.Statement.{statement}
 use Rattle.repair.proofs.calls.repair.Tie as tie
 
@@ -20,23 +21,29 @@ slice-aggregate-repair-by : tie.Need-slice-aggregate-repair-by
 slice-aggregate-repair-by c = let n : tie.After-student-count = search in sym (ones-length _ (few n))
 
 repair-by-requires : tie.Need-repair-by-requires
-repair-by-requires c κs = let n : tie.After-student-count = search in ones-given _ _ (few n)
+repair-by-requires c κs = let n : tie.After-student-count = search in ones-light-given _ (few n)
 
 returns : tie.Need-returns
 returns c =
     let r : tie.After-repair-by = search in
+    let w : tie.After-asked-in = search in
     let n : tie.After-student-count = search in
     let s : tie.Start = search in
     let a = s .args in
     let b = now (a .book) in
     let m = now (a .matching) in
+    let q = now (a .request) in
+    let out = now (a .out) in
+    let gains = now (a .gains) in
     let k = take (n .student-count .result) ones in
     let E = ones-unit b m (n .student-count .ensures) in
+    let x = w .asked-in .result in
+    let A = w .asked-in .ensures in
     let R = r .repair-by .ensures in (
-      R .0 ∙ unit-reply b m k E (now (a .request)) (now (a .out)) (now (a .gains)),
+      R .0 ∙ request-reply b m k q out gains x A ∙ unit-reply b m k E q out gains,
       (
-        R .1 .0 ∙ unit-matching b m k E (now (a .request)) (now (a .out)) (now (a .gains)),
-        R .1 .1 ∙ unit-gains b m k E (now (a .request)) (now (a .out)) (now (a .gains)),
+        R .1 .0 ∙ request-matching b m k q out gains x A ∙ unit-matching b m k E q out gains,
+        R .1 .1 ∙ request-gains b m k q out gains x A ∙ unit-gains b m k E q out gains,
       ),
     )
 
@@ -45,6 +52,7 @@ repair-spec =
     tie.close
     (tie.spec
     (λ c. search needs)
+    (λ c κs. search needs)
     (λ c κs. search needs)
     slice-aggregate-repair-by
     repair-by-requires

@@ -15,8 +15,8 @@ use Rattle.format.specs.Verdict.{Verdict, fine, rule}
 use Rattle.matchings.specs.Matching.{womanOf}
 use Rattle.repairs.specs.Request.{checkPair}
 use Rattle.repair.specs.Laws.Partner.{partner-entry}
-use Rattle.repair.proofs.pair.check_pair.Statement.{statement}
-use Rattle.repair.proofs.pair.check_pair.Tie as tie
+use Rattle.repair.proofs.asked.check_pair.Statement.{statement}
+use Rattle.repair.proofs.asked.check_pair.Tie as tie
 
 abbrev start : tie.After-wide → tie.Start
 start c = search
@@ -40,7 +40,7 @@ apart c = search
 abbrev verdict : tie.Start → Verdict
 verdict s =
     let a = s .args in
-    checkPair (a .n) (now (a .matching)) (a .pair .man .0) (a .pair .woman .0) (a .room) (a .gains-room)
+    checkPair (a .n) (now (a .his)) (a .pair .man .0) (a .pair .woman .0) (a .room) (a .gains-room)
 
 abbrev room : tie.Start → Verdict
 room s = rule (either (ltb (s .args .room) (s .args .n)) (ltb (s .args .gains-room) (s .args .n))) 14 0 fine
@@ -56,7 +56,7 @@ known :
     (c : tie.Else2) →
     let s = start (man (below c)) in
     let a = s .args in
-    verdict s ≡ rule (not (eqb (womanOf (now (a .matching)) (a .pair .man .0)) (a .pair .woman .0))) 12 0 (room s)
+    verdict s ≡ rule (not (eqb (womanOf (now (a .his)) (a .pair .man .0)) (a .pair .woman .0))) 12 0 (room s)
 unfolding checkPair
 known c = rw (lt-leb _ _ (man-lt (below c)), lt-leb _ _ (woman-lt c))
 
@@ -64,7 +64,7 @@ known c = rw (lt-leb _ _ (man-lt (below c)), lt-leb _ _ (woman-lt c))
 entry :
     (c : tie.After-is-partner) →
     let a = start (man (below (apart c))) .args in
-    c .is-partner .result ≡ eqb (womanOf (now (a .matching)) (a .pair .man .0)) (a .pair .woman .0)
+    c .is-partner .result ≡ eqb (womanOf (now (a .his)) (a .pair .man .0)) (a .pair .woman .0)
 entry c =
     let s = start (man (below (apart c))) in
     let l : s .args .pair .woman .0 < nobody = omega (arith, woman-lt (apart c), s .pre .0) in

@@ -3,8 +3,8 @@ use mathlib.Core.Path.{sym, ap}
 use borrow.Author.Needs.{needs}
 use Rattle.format.specs.declared.people.Partner.{Partner}
 use Rattle.repair.specs.Partner.{partnerIs}
-use Rattle.repair.proofs.pair.is_partner.Statement.{statement}
-use Rattle.repair.proofs.pair.is_partner.Tie as tie
+use Rattle.repair.proofs.asked.is_partner.Statement.{statement}
+use Rattle.repair.proofs.asked.is_partner.Tie as tie
 
 returns : tie.Need-returns
 returns c =
