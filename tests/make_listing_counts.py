@@ -1,6 +1,6 @@
 #!/usr/bin/env python3
 """The counts of the first part of tests/listing_compare, from document 01's definitions over all matchings and, for
-weights, short lists and sheets without a grade, from W-201, W-203 and W-204 of document 02.
+weights, short lists, sheets without a grade and mentors who ask, from W-201 and W-203 to W-205 of document 02.
 
     tests/make_listing_counts.py            prints them, in half a minute
     tests/make_listing_counts.py --check    says whether tests/listing_compare/expected begins with them
@@ -57,6 +57,7 @@ class Counts(collections.Counter):
                 answers[s] = answer(*book.moved(m, s), ones)
                 self["answers " + answers[s][0]] += 1
                 self["refusals"] += 1  # the student with the mentor after his own
+        self["mentors alone"] += self.mentors("answers by mentor ", m, answers)
         self.sheet("sheets", book.n, answers, ones)
         eliminated = book.runs()[m]
         marks = [int(rotation in eliminated) for rotation in rotations]
@@ -75,8 +76,17 @@ class Counts(collections.Counter):
             for letter, total in answers.values():
                 self["weighted answers " + letter] += 1
                 self["weighted totals"] += total
+            self.mentors("weighted answers by mentor ", m, answers)
             self["weighted grades"] += grade(answers, weights) or 0
             self.sheet("weighted sheets", book.n, answers, weights)
+
+    def mentors(self, word, m, answers):
+        """Every mentor's number, n and 255, of which no mentor has the last two; the reply is how many are alone."""
+        alone = [t for t in range(len(m)) if t not in m]
+        for t in set(range(len(m))) - set(alone):
+            self[word + answers[m.index(t)][0]] += 1
+        self["refusals"] += len(alone) + 2
+        return len(alone)
 
     def sheet(self, word, n, answers, weights):
         """A sheet by what it shows; students who are not among the answers are alone."""
@@ -170,10 +180,13 @@ def count_drawn_short(counts):
 SHOWN = ["no grade and a fixed pair", "no grade and no pair", "a grade and a fixed pair"]
 SHOWN += ["a fixed pair and a student without a mentor", "the grade 0 and a repair of distance 1"]
 SHORT_WORDS = ["books refused as one-sided", "books with rotations", "books with somebody alone on each side"]
-SHORT_WORDS += ["books with both", "students alone", "searches that a mentor who is alone ends before a willing one"]
+SHORT_WORDS += ["books with both", "students alone", "mentors alone"]
+SHORT_WORDS += ["searches that a mentor who is alone ends before a willing one"]
 WORDS = ["books", "matchings", "stable matchings", "answers U", "answers D", "answers F"]
+WORDS += [f"answers by mentor {letter}" for letter in "UDF"]
 WORDS += ["refusals", "rotations", "sets", "sheets"] + [f"sheets with {kind}" for kind in SHOWN]
 WORDS += ["weighted matchings", "weighted answers U", "weighted answers D", "weighted answers F"]
+WORDS += [f"weighted answers by mentor {letter}" for letter in "UDF"]
 WORDS += ["weighted totals", "weighted grades"] + [f"weighted sheets with {kind}" for kind in SHOWN]
 
 

@@ -1,91 +1,10 @@
 //! The functions of include/placement.h as the linked archive has them, over slices. An empty slice is passed as a
 //! null pointer and length 0. `printed` reads a sheet back.
 
+mod c;
 pub mod printed;
 
 pub use reply::{Reply, NO_GRADE};
-
-mod c {
-    use super::Reply;
-
-    extern "C" {
-        pub fn placement_check_book(book: *const u8, book_len: usize) -> Reply;
-        pub fn placement_book_size(n: usize) -> Reply;
-        pub fn placement_write_book(
-            n: usize,
-            lists: *const u8,
-            lists_len: usize,
-            out: *mut u8,
-            out_len: usize,
-        ) -> Reply;
-        pub fn placement_student_list(book: *const u8, book_len: usize, student: usize) -> Reply;
-        pub fn placement_mentor_list(book: *const u8, book_len: usize, mentor: usize) -> Reply;
-        pub fn placement_check_matching(
-            book: *const u8,
-            book_len: usize,
-            matching: *const u8,
-            matching_len: usize,
-        ) -> Reply;
-        pub fn placement_student_best(book: *const u8, book_len: usize, out: *mut u8, out_len: usize) -> Reply;
-        pub fn placement_mentor_best(book: *const u8, book_len: usize, out: *mut u8, out_len: usize) -> Reply;
-        pub fn placement_repair(
-            book: *const u8,
-            book_len: usize,
-            matching: *const u8,
-            matching_len: usize,
-            request: *const u8,
-            request_len: usize,
-            out: *mut u8,
-            out_len: usize,
-            gains: *mut i8,
-            gains_len: usize,
-        ) -> Reply;
-        pub fn placement_grade(book: *const u8, book_len: usize, matching: *const u8, matching_len: usize) -> Reply;
-        pub fn placement_rotation_count(book: *const u8, book_len: usize) -> Reply;
-        pub fn placement_rotations(book: *const u8, book_len: usize, out: *mut u8, out_len: usize) -> Reply;
-        pub fn placement_precedes(book: *const u8, book_len: usize, first: usize, second: usize) -> Reply;
-        pub fn placement_set_to_matching(
-            book: *const u8,
-            book_len: usize,
-            set: *const u8,
-            set_len: usize,
-            out: *mut u8,
-            out_len: usize,
-        ) -> Reply;
-        pub fn placement_matching_to_set(
-            book: *const u8,
-            book_len: usize,
-            matching: *const u8,
-            matching_len: usize,
-            out: *mut u8,
-            out_len: usize,
-        ) -> Reply;
-        pub fn placement_sheet(input: *const u8, input_len: usize, out: *mut u8, out_len: usize) -> Reply;
-        pub fn placement_weighted_repair(
-            book: *const u8,
-            book_len: usize,
-            matching: *const u8,
-            matching_len: usize,
-            weights: *const u8,
-            weights_len: usize,
-            request: *const u8,
-            request_len: usize,
-            out: *mut u8,
-            out_len: usize,
-            gains: *mut i8,
-            gains_len: usize,
-        ) -> Reply;
-        pub fn placement_weighted_grade(
-            book: *const u8,
-            book_len: usize,
-            matching: *const u8,
-            matching_len: usize,
-            weights: *const u8,
-            weights_len: usize,
-        ) -> Reply;
-        pub fn placement_weighted_sheet(input: *const u8, input_len: usize, out: *mut u8, out_len: usize) -> Reply;
-    }
-}
 
 /// The pointer of a slice that is lent for reading.
 fn at(slice: &[u8]) -> *const u8 {
@@ -157,6 +76,23 @@ pub fn repair(book: &[u8], matching: &[u8], request: &[u8], out: &mut [u8], gain
     }
 }
 
+pub fn repair_mentor(book: &[u8], matching: &[u8], mentor: u8, out: &mut [u8], gains: &mut [i8]) -> Reply {
+    let (out_len, gains_len) = (out.len(), gains.len());
+    unsafe {
+        c::placement_repair_mentor(
+            at(book),
+            book.len(),
+            at(matching),
+            matching.len(),
+            mentor,
+            at_mut(out),
+            out_len,
+            at_mut(gains),
+            gains_len,
+        )
+    }
+}
+
 pub fn grade(book: &[u8], matching: &[u8]) -> Reply {
     unsafe { c::placement_grade(at(book), book.len(), at(matching), matching.len()) }
 }
@@ -204,6 +140,32 @@ pub fn weighted_repair(
             weights.len(),
             at(request),
             request.len(),
+            at_mut(out),
+            out_len,
+            at_mut(gains),
+            gains_len,
+        )
+    }
+}
+
+pub fn weighted_repair_mentor(
+    book: &[u8],
+    matching: &[u8],
+    weights: &[u8],
+    mentor: u8,
+    out: &mut [u8],
+    gains: &mut [i8],
+) -> Reply {
+    let (out_len, gains_len) = (out.len(), gains.len());
+    unsafe {
+        c::placement_weighted_repair_mentor(
+            at(book),
+            book.len(),
+            at(matching),
+            matching.len(),
+            at(weights),
+            weights.len(),
+            mentor,
             at_mut(out),
             out_len,
             at_mut(gains),

@@ -1,6 +1,6 @@
 //! Each call on both libraries, with equal inputs and equal result buffers, compared in reply and in every byte of the
 //! buffers and of the guard bytes before and after them. What the archive reports of a repair is recounted from its
-//! gains. The calls for a sheet stand in `printed`.
+//! gains. The calls for a sheet stand in `printed`, those by a mentor's number in `by_mentor`.
 
 use crate::tally::{hex, Tally};
 use independent::calls;
@@ -87,7 +87,7 @@ impl Both {
 
     /// Makes a call for a repair with these weights and two result buffers of these lengths, the second for gains, on
     /// both sides.
-    fn lending_two(
+    pub fn lending_two(
         &mut self,
         call: &str,
         inputs: &[&[u8]],

@@ -5,6 +5,7 @@
 //!     compare [SECONDS] [SEED]
 
 mod both;
+mod by_mentor;
 mod damage;
 mod printed;
 mod short;

@@ -1,6 +1,7 @@
 //! Questions to a well-formed book: good ones, and ones that break each rule after the book's.
 
 use crate::both::Both;
+use crate::by_mentor;
 use crate::weights;
 use independent::instance;
 use independent::matching::ALONE;
@@ -41,6 +42,7 @@ impl Sound {
         self.ask_bad_matchings(both, &matchings[0]);
         self.ask_bad_requests(both, &matchings[0]);
         self.ask_bad_weights(both, &matchings[0]);
+        self.ask_bad_mentors(both, &matchings[0]);
         assert_eq!(self.book, before, "a call has written to the book");
     }
 
@@ -142,7 +144,8 @@ impl Sound {
         sets.iter().map(|set| self.poset.matching(set)[..self.n].to_vec()).collect()
     }
 
-    /// A stable matching: its set, its grade, its sheet and the repairs of all its pairs, plain and weighted.
+    /// A stable matching: its set, its grade, its sheet and the repairs of all its pairs, plain and weighted, also by
+    /// the mentors' numbers.
     fn ask_matching(&self, both: &mut Both, matching: &[u8]) {
         both.check_matching(&self.book, matching);
         both.grade(&self.book, matching);
@@ -160,6 +163,7 @@ impl Sound {
         };
         let plain: Vec<Reply> = (0..self.n).map(plain).collect();
         self.ask_weighted(both, matching, &plain);
+        self.ask_mentors(both, matching);
     }
 
     /// Matchings that break 8, 9 or 10, alone and with other faults behind them.
@@ -189,6 +193,7 @@ impl Sound {
         both.repair(&self.book, matching, &[0, matching.first().copied().unwrap_or(0)], self.n, self.n);
         both.repair(&self.book, matching, &[0], 0, self.n);
         self.ask_weighted_bad_matching(both, matching);
+        by_mentor::ask_bad(both, &self.book, matching, self.n);
     }
 
     /// Requests that break 13, 11, 12 and 14, alone and together.

@@ -9,7 +9,7 @@ use std::fmt::Write;
 const PRINTED: usize = 5;
 
 /// The calls whose number is recounted from the gains, and the calls for a sheet.
-const REPAIRS: [&str; 2] = ["repair", "weighted_repair"];
+const REPAIRS: [&str; 4] = ["repair", "weighted_repair", "repair_mentor", "weighted_repair_mentor"];
 const SHEETS: [&str; 2] = ["sheet", "weighted_sheet"];
 
 #[derive(Default)]
@@ -28,12 +28,14 @@ pub struct Tally {
     pub turned: [usize; 2],
     /// Weighted answers with U or D and a total of 0.
     pub weightless: usize,
-    /// Repairs, plain and weighted, that move students who weigh more than 0 and leave others who do.
-    pub mixed: [usize; 2],
+    /// Repairs by each of the calls that move students who weigh more than 0 and leave others who do.
+    pub mixed: [usize; REPAIRS.len()],
     /// Sheets of each kind, plain and weighted.
     pub shown: [[usize; KINDS.len()]; 2],
     /// Refusals by number; at 0 the calls that were not refused.
     pub refusals: [usize; 20],
+    /// The same of the calls by a mentor's number.
+    pub refusals_by_mentor: [usize; 20],
     pub differences: usize,
 }
 
@@ -58,6 +60,11 @@ impl Tally {
         if let Some(letter) = ['U', 'D', 'F'].iter().position(|&c| c as usize == reply.letter) {
             self.letters[letter] += 1;
         }
+    }
+
+    /// Counts a call by a mentor's number once more.
+    pub fn count_by_mentor(&mut self, reply: Reply) {
+        self.refusals_by_mentor[reply.number] += 1;
     }
 
     /// Counts a weighted answer beside the plain one for the same pair.
@@ -106,6 +113,8 @@ impl Tally {
     /// What never occurred and should have.
     pub fn missing(&self) -> Vec<String> {
         let refusals = (0..20).filter(|&k| self.refusals[k] == 0).map(|k| format!("refusal {k}"));
+        let by_mentor = (0..20).filter(|&k| self.refusals_by_mentor[k] == 0 && ![13, 15, 16].contains(&k));
+        let by_mentor = by_mentor.map(|k| format!("refusal {k} by mentor"));
         let letters = (0..3).filter(|&k| self.letters[k] == 0).map(|k| format!("letter {}", ["U", "D", "F"][k]));
         let large = (0..2).filter(|&k| self.largest_books[k] == 0).map(|k| format!("book of 64 of edition {}", k + 1));
         let kinds = ["", " with somebody alone", " with rotations", " with both"];
@@ -117,7 +126,15 @@ impl Tally {
         let shown = self.shown().filter(|&(_, _, times)| times == 0);
         let shown = shown.map(|(call, kind, _)| format!("{call} with {}", kind.words()));
         let books = large.chain(short);
-        refusals.chain(letters).chain(books).chain(turned).chain(weightless).chain(mixed).chain(shown).collect()
+        refusals
+            .chain(by_mentor)
+            .chain(letters)
+            .chain(books)
+            .chain(turned)
+            .chain(weightless)
+            .chain(mixed)
+            .chain(shown)
+            .collect()
     }
 
     pub fn print(&self) {
@@ -127,16 +144,23 @@ impl Tally {
         println!("edition 2: {all}, with somebody alone {alone}, with rotations {rotations}, with both {with_both}");
         println!("damaged books {}, calls {}: U {up}, D {down}, F {fixed}", self.damaged_books, self.calls);
         println!("weights: {turned_up} D to U, {turned_down} U to D, {} totals of 0", self.weightless);
-        let [plain, weighted] = self.mixed;
-        println!("repairs that move students and leave others: plain {plain}, weighted {weighted}");
-        self.shown().for_each(|(call, kind, times)| println!("{call} with {}: {times}", kind.words()));
-        let mut line = String::from("refused");
-        for (number, times) in self.refusals.iter().enumerate().skip(1) {
-            write!(line, " {number}: {times}").expect("a string takes everything");
+        for (call, times) in REPAIRS.iter().zip(self.mixed) {
+            println!("{call} that moves students and leaves others: {times}");
         }
-        println!("{line}");
+        self.shown().for_each(|(call, kind, times)| println!("{call} with {}: {times}", kind.words()));
+        print_refusals("refused", &self.refusals);
+        print_refusals("refused by mentor", &self.refusals_by_mentor);
         println!("differences {}", self.differences);
     }
+}
+
+/// Prints in a line how often each refusal was given.
+fn print_refusals(words: &str, refusals: &[usize; 20]) {
+    let mut line = words.to_string();
+    for (number, times) in refusals.iter().enumerate().skip(1) {
+        write!(line, " {number}: {times}").expect("a string takes everything");
+    }
+    println!("{line}");
 }
 
 /// Bytes as hexadecimal digits, long ones shortened.

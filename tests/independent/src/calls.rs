@@ -7,7 +7,7 @@ use crate::instance;
 use crate::matching::{self, ALONE};
 use crate::poset::Poset;
 use crate::repair::{self, Answer, Repairs};
-use crate::reply::{reply, rule, Checked, Reply, NO_GRADE};
+use crate::reply::{refused, reply, rule, Checked, Reply, NO_GRADE};
 use crate::sheet;
 use crate::weights::{self, Weights};
 
@@ -76,7 +76,54 @@ pub fn weighted_repair(
     out: &mut [u8],
     gains: &mut [i8],
 ) -> Reply {
-    match repaired(book, matching, weights, request, out, gains) {
+    answered(book, matching, weights, Asking::Pair(request), out, gains)
+}
+
+pub fn repair_mentor(book: &[u8], matching: &[u8], mentor: u8, out: &mut [u8], gains: &mut [i8]) -> Reply {
+    weighted_repair_mentor(book, matching, weights::ones(book), mentor, out, gains)
+}
+
+pub fn weighted_repair_mentor(
+    book: &[u8],
+    matching: &[u8],
+    weights: &[u8],
+    mentor: u8,
+    out: &mut [u8],
+    gains: &mut [i8],
+) -> Reply {
+    answered(book, matching, weights, Asking::Woman(mentor), out, gains)
+}
+
+/// How a pair is asked about: by a request, or by its woman's number.
+#[derive(Clone, Copy)]
+enum Asking<'a> {
+    Pair(&'a [u8]),
+    Woman(u8),
+}
+
+impl Asking<'_> {
+    /// The man of the pair: 13 for a request, then 11, 12. A woman's man is looked for among the given bytes.
+    fn man(self, n: usize, given: &[u8]) -> Checked<u8> {
+        match self {
+            Asking::Pair(request) => {
+                rule(request.len() != 2, 13, 0)?;
+                let (man, woman) = (request[0], request[1]);
+                rule(man as usize >= n || woman as usize >= n, 11, 0)?;
+                rule(given[man as usize] != woman, 12, 0)?;
+                Ok(man)
+            }
+            Asking::Woman(woman) => {
+                rule(woman as usize >= n, 11, 0)?;
+                let man = given.iter().position(|&other| other == woman);
+                man.map_or(Err(refused(12, 0)), |man| Ok(man as u8))
+            }
+        }
+    }
+}
+
+/// The reply of a repair.
+fn answered(book: &[u8], matching: &[u8], weights: &[u8], asking: Asking, out: &mut [u8], gains: &mut [i8]) -> Reply {
+    match repaired(book, matching, weights, asking, out, gains) {
         Ok(answer) => Reply { letter: answer.letter() as usize, ..Reply::value(answer.total()) },
         Err(refusal) => refusal.into(),
     }
@@ -86,7 +133,7 @@ fn repaired(
     book: &[u8],
     given: &[u8],
     weights: &[u8],
-    request: &[u8],
+    asking: Asking,
     out: &mut [u8],
     gains: &mut [i8],
 ) -> Checked<Answer> {
@@ -94,10 +141,7 @@ fn repaired(
     let n = instance.n;
     let matching = matching::stable(&instance, given)?;
     let weights = Weights::read(n, weights)?;
-    rule(request.len() != 2, 13, 0)?;
-    let (man, woman) = (request[0], request[1]);
-    rule(man as usize >= n || woman as usize >= n, 11, 0)?;
-    rule(given[man as usize] != woman, 12, 0)?;
+    let man = asking.man(n, given)?;
     rule(out.len() < n || gains.len() < n, 14, 0)?;
     let poset = Poset::of(&instance);
     let repairs = Repairs::of(&instance, &poset, &matching, 1 << man);

@@ -1,4 +1,4 @@
-//! A second implementation of document 01 (stable placements and their repairs) with W-201 to W-204 of document 02,
+//! A second implementation of document 01 (stable placements and their repairs) with W-201 to W-205 of document 02,
 //! made to be compared with the verified library. It goes by another route: the rotation poset of Gusfield and Irving
 //! (1989), and the repairs of document 000, section 3. Students are called men and mentors women, as in those
 //! sources.

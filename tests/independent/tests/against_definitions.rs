@@ -103,24 +103,44 @@ impl Known {
                 self.test_alone(given, man);
                 continue;
             };
-            let request = [man as u8, woman as u8];
-            let (mut out, mut gains) = (vec![99; n], vec![99; n]);
-            let reply = calls::repair(&self.book, &bytes(given), &request, &mut out, &mut gains);
-            let Some((letter, repaired)) = self.market.answer(&self.stable, given, &ones, man) else {
-                assert_eq!(reply, Reply { letter: b'F' as usize, ..Reply::default() });
-                assert!(out.iter().all(|&b| b == 99) && gains.iter().all(|&g| g == 99));
-                continue;
-            };
-            assert_eq!(reply, Reply { letter: letter as usize, ..Reply::value(distance(&repaired, given)) });
-            assert_eq!(out, bytes(&repaired));
-            let gain = |i: usize| self.market.place(i, given[i]) as i8 - self.market.place(i, repaired[i]) as i8;
-            assert_eq!(gains, (0..n).map(gain).collect::<Vec<_>>());
+            let (book, given_bytes, request) = (&self.book, bytes(given), [man as u8, woman as u8]);
+            self.test_repair(given, man, |out, gains| calls::repair(book, &given_bytes, &request, out, gains));
+            self.test_repair(given, man, |out, gains| calls::repair_mentor(book, &given_bytes, request[1], out, gains));
         }
+        self.test_mentors_alone(given);
         let grade = self.market.grade(&self.stable, given, &ones);
         assert_eq!(calls::grade(&self.book, &bytes(given)), Reply::value(grade.unwrap_or(NO_GRADE)));
         let input = [&self.book[..], &bytes(given)].concat();
         let sheet = self.market.sheet(&self.stable, self.rotations.len(), given, &ones);
         assert_eq!(String::from_utf8(independent::sheet::text(&input)).unwrap(), sheet);
+    }
+
+    /// A call for the repair of a man's pair, by a request or by the woman's number.
+    fn test_repair(&self, given: &Matching, man: usize, call: impl FnOnce(&mut [u8], &mut [i8]) -> Reply) {
+        let n = self.market.n;
+        let (mut out, mut gains) = (vec![99; n], vec![99; n]);
+        let reply = call(&mut out, &mut gains);
+        let Some((letter, repaired)) = self.market.answer(&self.stable, given, &vec![1; n], man) else {
+            assert_eq!(reply, Reply { letter: b'F' as usize, ..Reply::default() });
+            assert!(out.iter().all(|&b| b == 99) && gains.iter().all(|&g| g == 99));
+            return;
+        };
+        assert_eq!(reply, Reply { letter: letter as usize, ..Reply::value(distance(&repaired, given)) });
+        assert_eq!(out, bytes(&repaired));
+        let gain = |i: usize| self.market.place(i, given[i]) as i8 - self.market.place(i, repaired[i]) as i8;
+        assert_eq!(gains, (0..n).map(gain).collect::<Vec<_>>());
+    }
+
+    /// A woman who asks by her number is refused by 12 where she is alone; n and 255, which no woman has, by 11.
+    fn test_mentors_alone(&self, given: &Matching) {
+        let n = self.market.n;
+        let alone = (0..n).filter(|&woman| !given.contains(&Some(woman)));
+        for (woman, number) in alone.map(|woman| (woman as u8, 12)).chain([(n as u8, 11), (255, 11)]) {
+            let (mut out, mut gains) = (vec![99; n], vec![99; n]);
+            let reply = calls::repair_mentor(&self.book, &bytes(given), woman, &mut out, &mut gains);
+            assert_eq!(reply, Reply { number, ..Reply::default() });
+            assert!(out.iter().all(|&b| b == 99) && gains.iter().all(|&g| g == 99));
+        }
     }
 
     /// A request for a man without a woman is refused: 12, or 11 where it has 255 in her place.

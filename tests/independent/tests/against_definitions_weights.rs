@@ -48,6 +48,11 @@ impl Known {
         let plain = calls::repair(&self.book, &given_bytes, &request, &mut vec![0; n], &mut vec![0; n]);
         let reply = calls::weighted_repair(&self.book, &given_bytes, weights, &request, &mut out, &mut gains);
         met.count(reply, plain);
+        let (mut same_out, mut same_gains) = (vec![99; n], vec![99; n]);
+        let woman = request[1];
+        let by_mentor =
+            calls::weighted_repair_mentor(&self.book, &given_bytes, weights, woman, &mut same_out, &mut same_gains);
+        assert_eq!((by_mentor, &same_out, &same_gains), (reply, &out, &gains));
         let Some((letter, repaired)) = self.market.answer(&self.stable, given, weights, man) else {
             assert_eq!(reply, Reply { letter: b'F' as usize, ..Reply::default() });
             assert!(out.iter().all(|&b| b == 99) && gains.iter().all(|&g| g == 99));

@@ -105,6 +105,22 @@ pub unsafe extern "C" fn placement_repair(
 }
 
 #[no_mangle]
+pub unsafe extern "C" fn placement_repair_mentor(
+    book: *const u8,
+    book_len: usize,
+    matching: *const u8,
+    matching_len: usize,
+    mentor: u8,
+    out: *mut u8,
+    out_len: usize,
+    gains: *mut i8,
+    gains_len: usize,
+) -> Reply {
+    let (book, matching) = (lent(book, book_len), lent(matching, matching_len));
+    calls::repair_mentor(book, matching, mentor, lent_mut(out, out_len), lent_mut(gains, gains_len))
+}
+
+#[no_mangle]
 pub unsafe extern "C" fn placement_grade(
     book: *const u8,
     book_len: usize,
@@ -176,6 +192,25 @@ pub unsafe extern "C" fn placement_weighted_repair(
     let (book, matching) = (lent(book, book_len), lent(matching, matching_len));
     let (weights, request) = (lent(weights, weights_len), lent(request, request_len));
     calls::weighted_repair(book, matching, weights, request, lent_mut(out, out_len), lent_mut(gains, gains_len))
+}
+
+#[no_mangle]
+pub unsafe extern "C" fn placement_weighted_repair_mentor(
+    book: *const u8,
+    book_len: usize,
+    matching: *const u8,
+    matching_len: usize,
+    weights: *const u8,
+    weights_len: usize,
+    mentor: u8,
+    out: *mut u8,
+    out_len: usize,
+    gains: *mut i8,
+    gains_len: usize,
+) -> Reply {
+    let (book, matching) = (lent(book, book_len), lent(matching, matching_len));
+    let weights = lent(weights, weights_len);
+    calls::weighted_repair_mentor(book, matching, weights, mentor, lent_mut(out, out_len), lent_mut(gains, gains_len))
 }
 
 #[no_mangle]

@@ -4,7 +4,8 @@
 //! go up to 64.
 //!
 //! Document 01's students are men here and its mentors women, as in its source. Quotation marks hold its sentences,
-//! and on weights, short lists and the first line of the sheet those of document 02's W-201, W-203 and W-204.
+//! and on weights, short lists, the first line of the sheet and mentors who ask those of document 02's W-201, W-203 to
+//! W-205.
 //!
 //! - `people`: a man's number and a woman's
 //! - `reply`: what a call answers, refusals

@@ -1,4 +1,5 @@
-//! The calls on repairs of include/placement.h: the repair of a pair and the grade, with weights and without.
+//! The calls on repairs of include/placement.h: the repair of a pair, asked for by a request or by the mentor's number,
+//! and the grade, with weights and without.
 //!
 //! "After the book, …: 8, 9, 10, then 13, 11, 12, then 14"; "17 weights, not n bytes, after 10"; 19 comes "after 9".
 
@@ -65,6 +66,32 @@ impl Asked<'_> {
             return refused(12, 0);
         }
         Ok(man)
+    }
+
+    /// The repair of the pair of a mentor.
+    pub fn repair_mentor(&self, matching: &[u8], mentor: u8, out: &mut [u8], gains: &mut [i8]) -> Reply {
+        self.weighted_repair_mentor(matching, &self.ones(), mentor, out, gains)
+    }
+
+    /// The repair of the pair of a mentor with weights (W-205): "A new call takes a mentor's number and answers as the
+    /// two-byte request for her pair does. A number of n or more gets 11, a mentor who is alone 12."
+    pub fn weighted_repair_mentor(
+        &self,
+        matching: &[u8],
+        weights: &[u8],
+        mentor: u8,
+        out: &mut [u8],
+        gains: &mut [i8],
+    ) -> Reply {
+        let (given, _) = self.weighed(matching, weights)?;
+        let woman = Woman(mentor);
+        if woman.index() >= self.checked? {
+            return refused(11, 0);
+        }
+        let Some(man) = given.man_of(woman) else {
+            return refused(12, 0);
+        };
+        self.weighted_repair(matching, weights, &[man.0, woman.0], out, gains)
     }
 
     /// The grade of a matching, none where no pair can be repaired.

@@ -1,6 +1,7 @@
 //! Each call on the archive and on the listing, with equal inputs and equal result buffers, compared in every field
 //! of the reply and in every byte of the buffers and of the guard bytes around them. What the archive reports of a
-//! repair is recounted from its gains. The calls for a sheet stand in `printed`.
+//! repair is recounted from its gains. The calls for a sheet stand in `printed`, those by a mentor's number in
+//! `by_mentor`.
 
 use crate::calls::Call;
 use crate::lent::Lent;
@@ -71,7 +72,7 @@ impl Both {
 
     /// Makes a call for a repair with these weights, and result buffers of these lengths for a matching and for gains,
     /// on both sides; the reply that is due.
-    fn lending_both(
+    pub fn lending_both(
         &mut self,
         call: Call,
         inputs: &[&[u8]],

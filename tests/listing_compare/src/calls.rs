@@ -25,10 +25,12 @@ pub enum Call {
     WeightedRepair,
     WeightedGrade,
     WeightedSheet,
+    RepairMentor,
+    WeightedRepairMentor,
 }
 
 /// How many calls there are, and the number after the last rule's.
-pub const COUNT: usize = 19;
+pub const COUNT: usize = 21;
 pub const RULES: usize = 20;
 
 /// The rules that every call that takes a book may be refused by.
@@ -55,7 +57,12 @@ const CALLS: [(Call, bool, &[usize]); COUNT] = [
     (Call::WeightedRepair, true, &[8, 9, 19, 10, 17, 13, 11, 12, 14]),
     (Call::WeightedGrade, true, &[8, 9, 19, 10, 17]),
     (Call::WeightedSheet, false, &[14]),
+    (Call::RepairMentor, true, &[8, 9, 19, 10, 11, 12, 14]),
+    (Call::WeightedRepairMentor, true, &[8, 9, 19, 10, 17, 11, 12, 14]),
 ];
+
+/// The calls for a repair: by a request and by a mentor's number, plain and weighted.
+pub const REPAIRS: [Call; 4] = [Call::Repair, Call::WeightedRepair, Call::RepairMentor, Call::WeightedRepairMentor];
 
 /// The refusals that each call prints as a sheet; rule 4 does not occur, since bytes past the book are no part of it.
 const PRINTS: [(Call, &[usize]); 2] = [
@@ -63,9 +70,11 @@ const PRINTS: [(Call, &[usize]); 2] = [
     (Call::WeightedSheet, &[1, 2, 3, 5, 6, 7, 18, 8, 9, 19, 10, 17]),
 ];
 
-/// Whether books of an edition may break a rule.
-fn in_edition(edition: Edition, rule: usize) -> bool {
-    edition == Edition::Two || ![18, 19].contains(&rule)
+/// Whether a call may be refused by a rule for a book of an edition. In edition 1 no mentor is alone, so that none who
+/// asks by her number is refused by 12.
+fn in_edition(edition: Edition, (call, rule): (Call, usize)) -> bool {
+    let by_mentor = [Call::RepairMentor, Call::WeightedRepairMentor].contains(&call);
+    edition == Edition::Two || (![18, 19].contains(&rule) && (!by_mentor || rule != 12))
 }
 
 /// Each call that has to do with an edition, with a rule that it may be refused by there; 0 where it is not refused.
@@ -76,13 +85,13 @@ pub fn refused_by(edition: Edition) -> impl Iterator<Item = (Call, usize)> {
         [0].iter().chain(book).chain(others).map(move |&rule| (call, rule))
     };
     let all = CALLS.into_iter().filter(move |(call, ..)| about(*call)).flat_map(rules);
-    all.filter(move |(_, rule)| in_edition(edition, *rule))
+    all.filter(move |&refusal| in_edition(edition, refusal))
 }
 
 /// Each call that prints a sheet, with a refusal that it may print for a book of an edition.
 pub fn prints(edition: Edition) -> impl Iterator<Item = (Call, usize)> {
     let all = PRINTS.into_iter().flat_map(|(call, rules)| rules.iter().map(move |&rule| (call, rule)));
-    all.filter(move |(_, rule)| in_edition(edition, *rule))
+    all.filter(move |&refusal| in_edition(edition, refusal))
 }
 
 /// Each call that prints a sheet, with a kind that it can be of for a book of an edition. In edition 1 nobody is alone,
@@ -104,6 +113,16 @@ mod tests {
     #[test]
     fn calls_stand_in_order() {
         assert!(CALLS.iter().enumerate().all(|(at, (call, ..))| *call as usize == at));
+    }
+
+    /// A mentor who asks by her number is alone in edition 2 alone, and breaks no rule on requests.
+    #[test]
+    fn rules_of_mentors_who_ask() {
+        for call in [Call::RepairMentor, Call::WeightedRepairMentor] {
+            let refused_by = |edition, rule| refused_by(edition).any(|refusal| refusal == (call, rule));
+            assert_eq!([Edition::One, Edition::Two].map(|edition| refused_by(edition, 12)), [false, true]);
+            assert_eq!([Edition::One, Edition::Two].map(|edition| refused_by(edition, 13)), [false, false]);
+        }
     }
 
     /// Each rule is one of some call, 18 and 19 in edition 2 alone; nothing is written in edition 2.

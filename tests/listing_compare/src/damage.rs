@@ -65,6 +65,7 @@ impl Both {
         self.repair(&copy, matching, &[0, matching.first().copied().unwrap_or(0)], n, n);
         self.repair(&copy, &[255, 255, 255], &[], 0, 0);
         self.ask_damaged_weighted(&copy, matching);
+        self.ask_damaged_by_mentor(&copy, matching);
     }
 
     /// Asks a copy by every weighted call.

@@ -74,7 +74,8 @@ impl Editions<'_> {
         }
     }
 
-    /// Asks a matching; of a stable one the repairs of all pairs and the set, of another one of each.
+    /// Asks a matching; of a stable one the repairs of all pairs, also by each mentor's number and by n, and the set,
+    /// of another one of each.
     fn ask_matching(&mut self, matching: &[u8]) {
         let weights = &WEIGHTS[..self.n];
         let (reply, _) = self.alike(Call::CheckMatching, |book, _, _| archive::check_matching(book, matching));
@@ -83,6 +84,14 @@ impl Editions<'_> {
             self.alike(Call::Repair, |book, out, gains| archive::repair(book, matching, &request, out, gains));
             self.alike(Call::WeightedRepair, |book, out, gains| {
                 archive::weighted_repair(book, matching, weights, &request, out, gains)
+            });
+        }
+        for mentor in 0..=if reply.number == 0 { self.n as u8 } else { 0 } {
+            self.alike(Call::RepairMentor, |book, out, gains| {
+                archive::repair_mentor(book, matching, mentor, out, gains)
+            });
+            self.alike(Call::WeightedRepairMentor, |book, out, gains| {
+                archive::weighted_repair_mentor(book, matching, weights, mentor, out, gains)
             });
         }
         self.alike(Call::Grade, |book, _, _| archive::grade(book, matching));

@@ -8,6 +8,7 @@
 mod beyond;
 mod books;
 mod both;
+mod by_mentor;
 mod calls;
 mod damage;
 mod directories;

@@ -1,6 +1,6 @@
 //! The counts as they are printed.
 
-use crate::calls::{Call, RULES};
+use crate::calls::{Call, REPAIRS, RULES};
 use crate::tally::Tally;
 use archive::printed::KINDS;
 use listing::book::Edition;
@@ -12,32 +12,36 @@ pub fn short(tally: &Tally) {
     println!("books with somebody alone on each side {}", tally.lonely_books);
     println!("books with both {}", tally.rotating_lonely_books);
     println!("students alone {}", tally.alone);
+    println!("mentors alone {}", tally.mentors_alone);
     println!("searches that a mentor who is alone ends before a willing one {}", tally.ended_searches);
 }
 
 /// The counts of the first part.
 pub fn sound(tally: &Tally) {
-    let [up, down, fixed] = tally.letters;
     println!("books {}", tally.books);
     println!("matchings {}", tally.matchings);
     println!("stable matchings {}", tally.stable_matchings);
-    println!("answers U {up}");
-    println!("answers D {down}");
-    println!("answers F {fixed}");
+    letters("answers", tally.letters);
+    letters("answers by mentor", tally.letters_by_mentor);
     println!("refusals {}", tally.refusals());
     println!("rotations {}", tally.rotations);
     println!("sets {}", tally.sets);
     println!("sheets {}", tally.sheets);
     shown("sheets", Call::Sheet, tally);
-    let [up, down, fixed] = tally.weighted_letters;
     println!("weighted matchings {}", tally.weighted_matchings);
-    println!("weighted answers U {up}");
-    println!("weighted answers D {down}");
-    println!("weighted answers F {fixed}");
+    letters("weighted answers", tally.weighted_letters);
+    letters("weighted answers by mentor", tally.weighted_letters_by_mentor);
     println!("weighted totals {}", tally.weighted_totals);
     println!("weighted grades {}", tally.weighted_grades);
     shown("weighted sheets", Call::WeightedSheet, tally);
     println!("differences {}", tally.differences);
+}
+
+/// How many answers have each letter.
+fn letters(words: &str, letters: [usize; 3]) {
+    for (letter, times) in ['U', 'D', 'F'].iter().zip(letters) {
+        println!("{words} {letter} {times}");
+    }
 }
 
 /// How many sheets of each kind a call has printed.
@@ -71,8 +75,11 @@ pub fn rules(tally: &Tally) {
     }
     println!("sheets that print a refusal {}", tally.printed(Call::Sheet));
     println!("weighted sheets that print a refusal {}", tally.printed(Call::WeightedSheet));
-    println!("repairs that move students and leave others {}", tally.mixed(Call::Repair));
-    println!("weighted repairs that move students and leave others {}", tally.mixed(Call::WeightedRepair));
+    for (words, call) in
+        ["repairs", "weighted repairs", "repairs by mentor", "weighted repairs by mentor"].iter().zip(REPAIRS)
+    {
+        println!("{words} that move students and leave others {}", tally.mixed(call));
+    }
 }
 
 /// What was never met in an edition; whether there is such.

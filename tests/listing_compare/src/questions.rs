@@ -85,7 +85,7 @@ impl Both {
         self.sheet(&[book.book(), matching].concat(), SHEET_ROOM);
     }
 
-    /// Asks what is asked of stable matchings alone: the answers for all pairs, and sets.
+    /// Asks what is asked of stable matchings alone: the answers for all pairs, also by their mentors, and sets.
     fn ask_stable(&mut self, book: &Asked, stable: &Matching, matching: &[u8], number: usize) {
         self.tally.stable_matchings += 1;
         for man in Man::all(matching.len()) {
@@ -95,6 +95,7 @@ impl Both {
                 None => self.ask_alone(book, matching, man),
             }
         }
+        self.ask_mentors(book, matching);
         let mut set = self.matching_to_set(book, matching, ROOM);
         self.ask_set(book, &set);
         if !set.is_empty() {

@@ -36,8 +36,8 @@ impl Both {
         self.weighted_sheet(&[book.book(), &best, &[0; 8835]].concat(), 64);
     }
 
-    /// Asks for the repair of every pair, plain and weighted, with both buffers a little too short, long enough or
-    /// longer.
+    /// Asks for the repair of every pair, plain and weighted, by a request and by its mentor's number, with both
+    /// buffers a little too short, long enough or longer.
     fn ask_repair_rooms(&mut self, book: &Asked, matching: &[u8]) {
         let n = matching.len();
         for man in Man::all(n) {
@@ -46,6 +46,8 @@ impl Both {
                 for gains_room in [0, n - 1, n, n + 1] {
                     self.repair(book, matching, &request, room, gains_room);
                     self.weighted_repair(book, matching, &WEIGHTS[..n], &request, (room, gains_room));
+                    self.repair_mentor(book, matching, request[1], (room, gains_room));
+                    self.weighted_repair_mentor(book, matching, &WEIGHTS[..n], request[1], (room, gains_room));
                 }
             }
         }

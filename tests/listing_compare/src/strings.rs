@@ -57,6 +57,8 @@ impl Both {
         self.matching_to_set(book, string, 0);
         self.repair(book, string, &[0, 0], n, n);
         self.repair(book, string, &[0], 0, 0);
+        self.repair_mentor(book, string, 0, (n, n));
+        self.repair_mentor(book, string, 255, (0, 0));
         if book.stable_matching(string).is_err() {
             let input = [book.book(), string].concat();
             self.sheet(&input, 16);
@@ -71,6 +73,8 @@ impl Both {
             self.weighted_grade(book, string, weights);
             self.weighted_repair(book, string, weights, &[0, 0], (n, n));
             self.weighted_repair(book, string, weights, &[0], (0, 0));
+            self.weighted_repair_mentor(book, string, weights, 0, (n, n));
+            self.weighted_repair_mentor(book, string, weights, 255, (0, 0));
             if book.stable_matching(string).is_err() {
                 let input = [book.book(), string, weights].concat();
                 self.weighted_sheet(&input, 16);

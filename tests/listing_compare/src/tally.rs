@@ -1,6 +1,6 @@
 //! Counts of what was compared, the rules that were met, and the report of differences.
 
-use crate::calls::{prints, refused_by, shows, Call, COUNT, RULES};
+use crate::calls::{prints, refused_by, shows, Call, COUNT, REPAIRS, RULES};
 use archive::printed::{Kind, Printed, KINDS};
 use archive::Reply;
 use listing::book::Edition;
@@ -30,14 +30,18 @@ pub struct Tally {
     pub rotations: usize,
     pub sets: usize,
     pub sheets: usize,
-    /// Answers with U, D and F, and students of stable matchings who are alone.
+    /// Answers with U, D and F, and students of stable matchings who are alone; the same by mentors' numbers.
     pub letters: [usize; 3],
     pub alone: usize,
+    pub letters_by_mentor: [usize; 3],
+    pub mentors_alone: usize,
     /// Searches for a next mentor that one who is alone ends before one who is willing.
     pub ended_searches: usize,
-    /// Stable matchings with weights, the answers with U, D and F, and the sums of their totals and of the grades.
+    /// Stable matchings with weights, the answers with U, D and F, to requests and by mentors' numbers, and the sums of
+    /// the totals of the former and of the grades.
     pub weighted_matchings: usize,
     pub weighted_letters: [usize; 3],
+    pub weighted_letters_by_mentor: [usize; 3],
     pub weighted_totals: usize,
     pub weighted_grades: usize,
     /// For each call how often each rule was met; at 0 how often none was.
@@ -130,7 +134,7 @@ impl Tally {
         let unmet = refused_by(edition).filter(|&(call, rule)| self.met[call as usize][rule] == 0);
         let unprinted = prints(edition).filter(|&(call, rule)| self.printed[call as usize][rule] == 0);
         let unshown = shows(edition).filter(|&(call, kind)| self.shown(call, kind) == 0);
-        let unmixed = [Call::Repair, Call::WeightedRepair].into_iter().filter(|&call| self.mixed(call) == 0);
+        let unmixed = REPAIRS.into_iter().filter(|&call| self.mixed(call) == 0);
         let unmet = unmet.map(|(call, rule)| format!("{call:?} by rule {rule}"));
         let unprinted = unprinted.map(|(call, rule)| format!("{call:?} that prints the refusal by rule {rule}"));
         let unshown = unshown.map(|(call, kind)| format!("{call:?} with {}", kind.words()));

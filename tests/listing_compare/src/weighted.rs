@@ -1,5 +1,5 @@
-//! What is asked of stable matchings with weights in the first part: the answers for all pairs, the grade and the
-//! sheet. Result buffers are long enough.
+//! What is asked of stable matchings with weights in the first part: the answers for all pairs, also by their mentors,
+//! the grade and the sheet. Result buffers are long enough.
 
 use crate::both::Both;
 use crate::draw::Draw;
@@ -55,6 +55,7 @@ impl Both {
                 }
             }
         }
+        self.ask_weighted_mentors(book, &matching, weights);
         let grade = self.weighted_grade(book, &matching, weights).value;
         self.tally.weighted_grades += if grade == NO_GRADE { 0 } else { grade };
         self.weighted_sheet(&[book.book(), &matching, weights].concat(), SHEET_ROOM);

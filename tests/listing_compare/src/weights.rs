@@ -33,6 +33,7 @@ impl Both {
                 self.weighted_repair(book, matching, weights, request, rooms);
             }
         }
+        self.ask_mentors_of_weights(book, matching, weights);
         for room in SHEET_ROOMS {
             self.weighted_sheet(&[book.book(), matching, weights].concat(), room);
         }
