@@ -1,7 +1,8 @@
 /* Asks for the repair of one pair and prints the answer.
  *
  *     gcc -Iinclude examples/repair.c target/staticlib/libplacement.a -o target/repair
- *     target/repair FILE STUDENT MENTOR
+ *     target/repair FILE STUDENT MENTOR       the pair by both numbers
+ *     target/repair FILE MENTOR               by the mentor's alone
  *
  * FILE holds a book of either edition and after it the matching, as the sheet program takes them; examples/table-1 and
  * examples/short-lists are such files. */
@@ -46,7 +47,7 @@ static size_t book_length(const uint8_t *input, size_t length)
     return size < length ? size : length;
 }
 
-/* Reads a number of a student or mentor. A request has a byte for each, so one that no byte holds would become
+/* Reads a number of a student or mentor. A call takes a byte for each, so one that no byte holds would become
  * another's: it is not taken, nor is anything but digits. */
 static int read_number(const char *text, uint8_t *number)
 {
@@ -68,18 +69,23 @@ static const char *mentor_text(uint8_t mentor)
     return mentor == PLACEMENT_NOBODY ? "-" : text;
 }
 
-static void print_refusal(struct placement_reply reply, uint8_t student, const uint8_t *matching)
+/* Prints a refusal; where the pair was asked for by its mentor alone, the student of the request is not read. */
+static void print_refusal(struct placement_reply reply, const uint8_t *request, int by_mentor, const uint8_t *matching)
 {
     switch (reply.number) {
     case PLACEMENT_UNSTABLE:
         printf("refused: student %zu and mentor %zu block the matching\n", reply.place, reply.second);
         break;
     case PLACEMENT_UNKNOWN:
-        printf("refused: no student or no mentor has that number\n");
+        printf("refused: %sno mentor has that number\n", by_mentor ? "" : "no student or ");
         break;
     case PLACEMENT_APART:
-        printf("refused: the two are not together; student %u has mentor %s\n", student,
-               mentor_text(matching[student]));
+        if (by_mentor) {
+            printf("refused: mentor %u has no student\n", request[1]);
+        } else {
+            printf("refused: the two are not together; student %u has mentor %s\n", request[0],
+                   mentor_text(matching[request[0]]));
+        }
         break;
     default:
         printf("refused %zu, place %zu\n", reply.number, reply.place);
@@ -107,11 +113,12 @@ int main(int argc, char **argv)
     static uint8_t input[LARGEST_INPUT];
     uint8_t request[2], repaired[PLACEMENT_LARGEST_N];
     int8_t gains[PLACEMENT_LARGEST_N];
-    if (argc != 4) {
-        fprintf(stderr, "usage: repair FILE STUDENT MENTOR\n");
+    if (argc != 3 && argc != 4) {
+        fprintf(stderr, "usage: repair FILE [STUDENT] MENTOR\n");
         return 2;
     }
-    if (!read_number(argv[2], &request[0]) || !read_number(argv[3], &request[1])) {
+    const int by_mentor = argc == 3;
+    if ((!by_mentor && !read_number(argv[2], &request[0])) || !read_number(argv[argc - 1], &request[1])) {
         return 2;
     }
     FILE *file = fopen(argv[1], "rb");
@@ -124,10 +131,13 @@ int main(int argc, char **argv)
 
     size_t book = book_length(input, length);
     const uint8_t *matching = input + book;
-    struct placement_reply reply = placement_repair(input, book, matching, length - book, request, sizeof request,
-                                                    repaired, sizeof repaired, gains, sizeof gains);
+    struct placement_reply reply =
+        by_mentor ? placement_repair_mentor(input, book, matching, length - book, request[1], repaired,
+                                            sizeof repaired, gains, sizeof gains)
+                  : placement_repair(input, book, matching, length - book, request, sizeof request, repaired,
+                                     sizeof repaired, gains, sizeof gains);
     if (reply.number != PLACEMENT_FINE) {
-        print_refusal(reply, request[0], matching);
+        print_refusal(reply, request, by_mentor, matching);
         return 1;
     }
     print_answer(reply, matching, repaired, gains, length - book);

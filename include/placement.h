@@ -16,6 +16,8 @@
  * other field is 0, and no byte of a result buffer has been written. On success nothing past the result is written.
  *
  * Numbers of students, mentors and rotations that are passed as size_t may be any: those that nobody has are refused.
+ * A mentor who is passed as uint8_t is one byte, as in a request: of a wider number C passes the low byte, 0 for 256,
+ * so that a caller who has one has to see first that it is at most 255.
  */
 #ifndef PLACEMENT_H
 #define PLACEMENT_H
@@ -30,7 +32,7 @@ extern "C" {
 /* The version of this interface. The second number rises where something is added, the first where a program that was
  * written for the version before may have to be changed. */
 #define PLACEMENT_VERSION_MAJOR 2
-#define PLACEMENT_VERSION_MINOR 0
+#define PLACEMENT_VERSION_MINOR 1
 
 /* The largest of each over all books: buffers of these sizes are always long enough. */
 #define PLACEMENT_LARGEST_N 64                /* students, and mentors: bytes of a matching, entries of the gains */
@@ -50,8 +52,8 @@ extern "C" {
 /* The bytes of stack that a call needs, at most, whatever n is: as tests/stack measures the archive, rounded up.
  * Nothing is allocated otherwise, so the tables of a call lie on the stack of the thread that makes it. */
 #define PLACEMENT_STACK_BOOKS 5120       /* check_book, book_size, write_book, student_list, mentor_list */
-#define PLACEMENT_STACK_MATCHINGS 45056  /* check_matching, the extremes, rotation_count; repair, grade, sheet and their
-                                            weighted calls */
+#define PLACEMENT_STACK_MATCHINGS 45056  /* check_matching, the extremes, rotation_count; repair, repair_mentor, grade,
+                                            sheet and their weighted calls */
 #define PLACEMENT_STACK_ROTATIONS 106496 /* rotations, precedes, set_to_matching, matching_to_set: the largest */
 
 /* The rules by number. Beside each: when it is broken, and the place given, 0 where none is said. */
@@ -70,7 +72,7 @@ enum placement_refusal {
                                  clash. Place: the first such byte */
     PLACEMENT_UNSTABLE = 10,  /* a pair blocks. Place: the lowest blocking student; second: his best-ranked such mentor */
     PLACEMENT_UNKNOWN = 11,   /* no student, mentor or rotation has the number; PLACEMENT_NOBODY is no mentor's */
-    PLACEMENT_APART = 12,     /* the two are not together, or the student has no mentor */
+    PLACEMENT_APART = 12,     /* the two are not together, or the student, or the mentor who asks, is alone */
     PLACEMENT_ONE_PAIR = 13,  /* the request is not two bytes, student then mentor */
     PLACEMENT_SHEET = 14,     /* a result buffer is too short */
     PLACEMENT_MARKS = 15,     /* the set has a wrong length or a byte over 1 */
@@ -126,6 +128,14 @@ struct placement_reply placement_repair(const uint8_t *book, size_t book_len, co
                                         const uint8_t *request, size_t request_len, uint8_t *out, size_t out_len,
                                         int8_t *gains, size_t gains_len);
 
+/* The repair of a mentor's pair, by her number alone: the reply and the bytes written are those of placement_repair for
+ * the request of her student and her. Both buffers must hold n entries in every case.
+ * Refused: the book, then 8, 9, 19, 10, then 11, 12, then 14. A number of n or more gets 11, PLACEMENT_NOBODY too, and
+ * a mentor who is alone, as she can be in edition 2, 12. */
+struct placement_reply placement_repair_mentor(const uint8_t *book, size_t book_len, const uint8_t *matching,
+                                               size_t matching_len, uint8_t mentor, uint8_t *out, size_t out_len,
+                                               int8_t *gains, size_t gains_len);
+
 /* value: the grade of a stable matching, which is the largest distance that placement_repair gives, less 1, over the
  * pairs that are not fixed; PLACEMENT_NO_GRADE where no pair can be repaired. Students without a mentor are no pairs
  * and do not count.
@@ -170,6 +180,14 @@ struct placement_reply placement_weighted_repair(const uint8_t *book, size_t boo
                                                  const uint8_t *weights, size_t weights_len, const uint8_t *request,
                                                  size_t request_len, uint8_t *out, size_t out_len, int8_t *gains,
                                                  size_t gains_len);
+
+/* The same by a mentor's number alone, as placement_repair_mentor: the reply and the bytes written are those of
+ * placement_weighted_repair for the request of her student and her.
+ * Refused: the book, then 8, 9, 19, 10, then 17, then 11, 12, then 14. */
+struct placement_reply placement_weighted_repair_mentor(const uint8_t *book, size_t book_len, const uint8_t *matching,
+                                                        size_t matching_len, const uint8_t *weights, size_t weights_len,
+                                                        uint8_t mentor, uint8_t *out, size_t out_len, int8_t *gains,
+                                                        size_t gains_len);
 
 /* value: the weighted grade of a stable matching, which is the largest, over the pairs that are not fixed, of the total
  * less the weight of the pair's own student; PLACEMENT_NO_GRADE where no pair can be repaired. Where one can, a grade

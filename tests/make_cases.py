@@ -4,9 +4,9 @@
     tests/make_cases.py            writes crates/cases/stdin and stdout
     tests/make_cases.py --check    says whether they are what it would write
 
-A case is a byte for the call, by its order in include/placement.h; then eight numbers of two bytes, low byte first:
-two that the call may take, the room of the result buffer and of the buffer of the places gained, the lengths of four
-parts; then the parts. Its line is the reply and the two buffers after the call, parted by colons.
+A case is a byte for the call, by its order in tests/cases/form.py; then eight numbers of two bytes, low byte first: two
+that the call may take, the room of the result buffer and of the buffer of the places gained, the lengths of four parts;
+then the parts. Its line is the reply and the two buffers after the call, parted by colons.
 
 The cases stand in tests/cases, a module for each group of calls. The expected replies and buffers are literals from
 documents 01, 02 and 000 or worked out there in Python; no code of the library is used.
@@ -18,6 +18,7 @@ sys.dont_write_bytecode = True
 from cases import book_calls, matching_calls, repair_calls, rotation_calls, sheet_calls
 from cases import weighted_calls, weighted_sheet_calls
 from cases import short_book_calls, short_lists, short_matching_calls, short_sheet_calls
+from cases import mentor_calls
 
 CASES = [
     *book_calls.CASES,
@@ -31,6 +32,7 @@ CASES = [
     *short_matching_calls.CASES,
     *short_sheet_calls.CASES,
     *short_lists.CASES,
+    *mentor_calls.CASES,
 ]
 # What the program takes
 LARGEST = 524288

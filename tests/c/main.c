@@ -15,6 +15,7 @@ int main(void)
     test_weights();
     test_weight_rules();
     test_weighted_sheet();
+    test_mentor();
     test_short_book();
     test_short_matching();
     test_short_repair();

@@ -12,7 +12,7 @@ struct question {
     size_t matching_length, set_length, student;
 };
 
-#define CALLS 17
+#define CALLS 19
 #define ROOM PLACEMENT_LARGEST_ROTATION_LIST
 
 /* The calls that take a book, with room for every result. */
@@ -40,6 +40,10 @@ static struct placement_reply ask(int call, const struct question *q, uint8_t *o
     case 14:
         return placement_weighted_repair(book, length, matching, entries, weights, n, request, 2, out, ROOM, gains, ROOM);
     case 15: return placement_weighted_grade(book, length, matching, entries, weights, n);
+    case 16: return placement_repair_mentor(book, length, matching, entries, request[1], out, ROOM, gains, ROOM);
+    case 17:
+        return placement_weighted_repair_mentor(book, length, matching, entries, weights, n, request[1], out, ROOM,
+                                                gains, ROOM);
     default: return placement_weighted_sheet(weighted.bytes, weighted.length, out, ROOM);
     }
 }

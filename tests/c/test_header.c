@@ -15,7 +15,7 @@ static void words(void)
     for (int number = 0; number < 20; number++) {
         HOLDS(numbers[number] == number);
     }
-    HOLDS(PLACEMENT_VERSION_MAJOR == 2 && PLACEMENT_VERSION_MINOR == 0);
+    HOLDS(PLACEMENT_VERSION_MAJOR == 2 && PLACEMENT_VERSION_MINOR == 1);
     HOLDS(PLACEMENT_NOBODY == 255);
     HOLDS(PLACEMENT_NO_GRADE == SIZE_MAX);
 }

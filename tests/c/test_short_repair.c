@@ -3,18 +3,7 @@
 
 #include <string.h>
 
-static struct lent out, gains, plain_out, plain_gains;
-
-/* The plain repair. */
-static struct placement_reply plain(const struct asked *a)
-{
-    struct placement_reply reply =
-        placement_repair(fenced(0, a->book.bytes, a->book.length), a->book.length,
-                         fenced(1, a->matching, a->matching_length), a->matching_length,
-                         fenced(2, a->request, a->request_length), a->request_length, lend(&plain_out, a->room),
-                         a->room, (int8_t *)lend(&plain_gains, a->gains_room), a->gains_room);
-    return after_call(after_call(reply, &plain_out), &plain_gains);
-}
+static struct lent out, gains;
 
 /* A repair and what it writes. */
 struct repaired {
@@ -32,9 +21,9 @@ static void repairs(struct book book, const uint8_t *matching, uint8_t student, 
     struct asked asked = asked_of(book, matching, ones, request);
     size_t written = due->letter == 'F' ? 0 : book.n;
     asked.room = asked.gains_room = book.n + 1;
-    EXPECT(plain(&asked), answer(due->letter, due->distance));
-    WROTE(&plain_out, due->matching, written);
-    WROTE(&plain_gains, due->gains, written);
+    EXPECT(plain_repair(&asked, &out, &gains), answer(due->letter, due->distance));
+    WROTE(&out, due->matching, written);
+    WROTE(&gains, due->gains, written);
     EXPECT(weighted_repair(&asked, &out, &gains), answer(due->letter, due->distance));
     WROTE(&out, due->matching, written);
     WROTE(&gains, due->gains, written);
@@ -87,11 +76,11 @@ static void alone(void)
     for (size_t k = 0; k < sizeof due / sizeof due[0]; k++) {
         struct asked asked = asked_of(short_book(6, six_lists), six_best, ones, due[k].request);
         for (asked.room = 5; asked.room <= 6; asked.room++) {
-            EXPECT(plain(&asked), refused(due[k].number, 0));
+            EXPECT(plain_repair(&asked, &out, &gains), refused(due[k].number, 0));
             EXPECT(weighted_repair(&asked, &out, &gains), refused(due[k].number, 0));
         }
         asked.request_length = 1;
-        EXPECT(plain(&asked), refused(13, 0));
+        EXPECT(plain_repair(&asked, &out, &gains), refused(13, 0));
         EXPECT(weighted_repair(&asked, &out, &gains), refused(13, 0));
     }
 }
@@ -108,7 +97,7 @@ static void rooms(void)
                 struct placement_reply fine = student == 0 ? answer('D', 2) : answer('F', 0);
                 asked.room = room;
                 asked.gains_room = gains_room;
-                EXPECT(plain(&asked), room < 6 || gains_room < 6 ? refused(14, 0) : fine);
+                EXPECT(plain_repair(&asked, &out, &gains), room < 6 || gains_room < 6 ? refused(14, 0) : fine);
                 EXPECT(weighted_repair(&asked, &out, &gains), room < 6 || gains_room < 6 ? refused(14, 0) : fine);
             }
         }

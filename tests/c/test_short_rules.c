@@ -1,5 +1,5 @@
 /* Edition 2 (W-203): the order of the rules of every call that takes a matching: the book with 18 last, 8, 9, 19,
- * 10, 17, 13, 11, 12, 14. */
+ * 10, 17, 13, 11, 12, 14. Of these the calls by mentor (W-205) lack 13, and plain calls 17. */
 #include "asked.h"
 
 static struct lent out, gains;
@@ -10,7 +10,7 @@ static const struct placement_reply rules[10] = {{18, 0, 0, 0, 0}, {8, 0, 0, 0, 
                                                  {12, 0, 0, 0, 0}, {14, 0, 0, 0, 0}};
 
 /* Makes what is asked with the six break a rule. A matching that breaks 9 breaks 19 and 10 too where `more` says
- * so, one that breaks 19 breaks 10. */
+ * so, one that breaks 19 breaks 10. Mentors 4 and 5 are alone. */
 static void break_rule(struct asked *asked, size_t rule, int more)
 {
     static const uint8_t clash[2][7] = {{0, 1, 2, 3, 255, 3}, {5, 1, 3, 2, 255, 6}};
@@ -24,18 +24,10 @@ static void break_rule(struct asked *asked, size_t rule, int more)
     case 10: asked->matching = unstable; break;
     case 17: asked->weights_length = more ? 7 : 5; break;
     case 13: asked->request_length = more ? 3 : 1; break;
-    case 11: asked->request = nobody; break;
-    case 12: asked->request = unplaced; break;
+    case 11: asked->request = nobody; asked->mentor = more ? 255 : 6; break;
+    case 12: asked->request = unplaced; asked->mentor = more ? 5 : 4; break;
     case 14: *(more ? &asked->room : &asked->gains_room) = 5; break;
     }
-}
-
-static struct placement_reply plain_repair(const struct asked *a)
-{
-    struct placement_reply reply =
-        placement_repair(a->book.bytes, a->book.length, a->matching, a->matching_length, a->request, a->request_length,
-                         lend(&out, a->room), a->room, (int8_t *)lend(&gains, a->gains_room), a->gains_room);
-    return after_call(after_call(reply, &out), &gains);
 }
 
 static struct placement_reply check(const struct asked *a)
@@ -54,6 +46,19 @@ static struct placement_reply set(const struct asked *a)
                                                 lend(&out, 1), 1), &out);
 }
 
+/* What a repair gives where two rules are broken: the earlier of those that the call has, which lacks one or two. */
+static struct placement_reply due(size_t first, size_t other, size_t lacks, size_t lacks_too)
+{
+    const size_t tried[2] = {first, other};
+    for (size_t k = 0; k < 2; k++) {
+        size_t number = rules[tried[k]].number;
+        if (number != lacks && number != lacks_too) {
+            return rules[tried[k]];
+        }
+    }
+    return answer('D', 2);
+}
+
 /* Each rule alone and each with each that comes after it: the earlier one is given, and nothing is written. The check,
  * the grade and the set go as far as 10, the weighted grade as far as 17. */
 static void each_pair(size_t first, size_t other, int more)
@@ -64,14 +69,14 @@ static void each_pair(size_t first, size_t other, int more)
     break_rule(&asked, rules[other].number, more);
     break_rule(&asked, rules[first].number, more);
     EXPECT(weighted_repair(&asked, &out, &gains), rules[first]);
+    EXPECT(plain_repair(&asked, &out, &gains), due(first, other, 17, 17));
+    EXPECT(weighted_by_mentor(&asked, &out, &gains), due(first, other, 13, 13));
+    EXPECT(plain_by_mentor(&asked, &out, &gains), due(first, other, 13, 17));
     EXPECT(weighted_grade(&asked), first < 6 ? rules[first] : value(1));
     if (first < 5) {
         EXPECT(check(&asked), rules[first]);
         EXPECT(grade(&asked), rules[first]);
         EXPECT(set(&asked), rules[first]);
-    }
-    if (first != 5) {
-        EXPECT(plain_repair(&asked), rules[first]);
     }
 }
 

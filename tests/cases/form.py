@@ -1,6 +1,6 @@
 """The form of a case and of its line, as tests/make_cases.py documents it, and the replies of include/placement.h."""
 
-# The calls by number, in the order of include/placement.h
+# The calls by number: in the order of include/placement.h, but the two by a mentor's number come last
 (
     CHECK_BOOK,
     BOOK_SIZE,
@@ -21,7 +21,9 @@
     WEIGHTED_REPAIR,
     WEIGHTED_GRADE,
     WEIGHTED_SHEET,
-) = range(19)
+    REPAIR_MENTOR,
+    WEIGHTED_REPAIR_MENTOR,
+) = range(21)
 
 
 def fine(value, place=0):

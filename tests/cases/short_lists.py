@@ -1,4 +1,5 @@
-"""Cases of books of edition 2 in which somebody is alone on each side (document 02, W-203): every call.
+"""Cases of books of edition 2 in which somebody is alone on each side (document 02, W-203): every call but those by a
+mentor's number, whose cases of these books are in mentor_calls.py.
 
 The expected answers are those of definitions.py, found among all matchings. What the modules beside this one have by
 hand of the same books is held against them, for SHORT_TABLE_1 from the Tables 2 and 3 of document 000. Three books come
@@ -114,11 +115,17 @@ SIX, TABLE_1 = MARKETS[:2]
 M5 = (4, 5, 6, 3, 1, 2, 0, NOBODY)
 assert len(SIX.all_stable) == 2 and len(TABLE_1.all_stable) == 11 and listed(TABLE_1.rotations()) == TABLE_1_LIST
 
+
+def matchings_of(market):
+    """The stable matchings that are given, of Table 1 two."""
+    return [TABLE_1.student_best(), M5] if market is TABLE_1 else market.all_stable
+
+
 # Those that stand by hand have to be as defined
 BY_HAND = dict(short_book_calls.CASES + short_matching_calls.CASES + short_sheet_calls.CASES)
 CASES = []
 for MARKET in MARKETS:
-    for GIVEN, LINE in market_cases(MARKET, [TABLE_1.student_best(), M5] if MARKET is TABLE_1 else MARKET.all_stable):
+    for GIVEN, LINE in market_cases(MARKET, matchings_of(MARKET)):
         assert BY_HAND.get(GIVEN, LINE) == LINE
         if GIVEN not in BY_HAND:
             CASES.append((GIVEN, LINE))

@@ -2,7 +2,7 @@
  * filled with a pattern before, and the deepest byte that has changed is looked for afterwards. What is printed for
  * each n is the most of all inputs of that n, each as it is and with a book that is refused at its last byte; a book of
  * edition 1 is measured as one of edition 2 too, which has the same bytes but the first. A repair is asked for every
- * pair. Exits with 1 if a call needs more than the header says.
+ * pair, by its request and by its mentor. Exits with 1 if a call needs more than the header says.
  *
  *     stack FILE...       files with a book and a stable matching after it; weights are added here */
 #define _XOPEN_SOURCE 700 /* makecontext */
@@ -30,104 +30,39 @@ static void nothing(void)
 {
 }
 
-static void check_book(void)
-{
-    reply = placement_check_book(input, book_len);
-}
+/* A function that makes the call of that name. */
+#define CALL(name, ...)                                                                                                \
+    static void name(void)                                                                                             \
+    {                                                                                                                  \
+        reply = placement_##name(__VA_ARGS__);                                                                         \
+    }
 
-static void book_size(void)
-{
-    reply = placement_book_size(matching_len);
-}
+/* What several calls take: the book with the matching, the request of two bytes, and both result buffers. */
+#define PLACED input, book_len, matching, matching_len
+#define REQUEST (const uint8_t[2]){(uint8_t)student, matching[student]}, 2
+#define RESULTS out, sizeof out, gains, sizeof gains
 
-static void write_book(void)
-{
-    const size_t lists = 2 + 8 * matching_len;
-    reply = placement_write_book(matching_len, input + lists, book_len - lists, out, sizeof out);
-}
-
-static void student_list(void)
-{
-    reply = placement_student_list(input, book_len, student);
-}
-
-static void mentor_list(void)
-{
-    reply = placement_mentor_list(input, book_len, student);
-}
-
-static void check_matching(void)
-{
-    reply = placement_check_matching(input, book_len, matching, matching_len);
-}
-
-static void student_best(void)
-{
-    reply = placement_student_best(input, book_len, out, sizeof out);
-}
-
-static void mentor_best(void)
-{
-    reply = placement_mentor_best(input, book_len, out, sizeof out);
-}
-
-static void repair(void)
-{
-    uint8_t request[2] = {(uint8_t)student, matching[student]};
-    reply = placement_repair(input, book_len, matching, matching_len, request, 2, out, sizeof out, gains, sizeof gains);
-}
-
-static void grade(void)
-{
-    reply = placement_grade(input, book_len, matching, matching_len);
-}
-
-static void rotation_count(void)
-{
-    reply = placement_rotation_count(input, book_len);
-}
-
-static void rotations(void)
-{
-    reply = placement_rotations(input, book_len, out, sizeof out);
-}
-
-static void precedes(void)
-{
-    reply = placement_precedes(input, book_len, 0, set_len == 0 ? 0 : set_len - 1);
-}
-
-static void set_to_matching(void)
-{
-    reply = placement_set_to_matching(input, book_len, set, set_len, out, sizeof out);
-}
-
-static void matching_to_set(void)
-{
-    reply = placement_matching_to_set(input, book_len, matching, matching_len, out, sizeof out);
-}
-
-static void sheet(void)
-{
-    reply = placement_sheet(input, book_len + matching_len, out, sizeof out);
-}
-
-static void weighted_repair(void)
-{
-    uint8_t request[2] = {(uint8_t)student, matching[student]};
-    reply = placement_weighted_repair(input, book_len, matching, matching_len, weights, matching_len, request, 2, out,
-                                      sizeof out, gains, sizeof gains);
-}
-
-static void weighted_grade(void)
-{
-    reply = placement_weighted_grade(input, book_len, matching, matching_len, weights, matching_len);
-}
-
-static void weighted_sheet(void)
-{
-    reply = placement_weighted_sheet(input, book_len + 2 * matching_len, out, sizeof out);
-}
+CALL(check_book, input, book_len)
+CALL(book_size, matching_len)
+CALL(write_book, matching_len, input + 2 + 8 * matching_len, book_len - 2 - 8 * matching_len, out, sizeof out)
+CALL(student_list, input, book_len, student)
+CALL(mentor_list, input, book_len, student)
+CALL(check_matching, PLACED)
+CALL(student_best, input, book_len, out, sizeof out)
+CALL(mentor_best, input, book_len, out, sizeof out)
+CALL(repair, PLACED, REQUEST, RESULTS)
+CALL(repair_mentor, PLACED, matching[student], RESULTS)
+CALL(grade, PLACED)
+CALL(rotation_count, input, book_len)
+CALL(rotations, input, book_len, out, sizeof out)
+CALL(precedes, input, book_len, 0, set_len == 0 ? 0 : set_len - 1)
+CALL(set_to_matching, input, book_len, set, set_len, out, sizeof out)
+CALL(matching_to_set, PLACED, out, sizeof out)
+CALL(sheet, input, book_len + matching_len, out, sizeof out)
+CALL(weighted_repair, PLACED, weights, matching_len, REQUEST, RESULTS)
+CALL(weighted_repair_mentor, PLACED, weights, matching_len, matching[student], RESULTS)
+CALL(weighted_grade, PLACED, weights, matching_len)
+CALL(weighted_sheet, input, book_len + 2 * matching_len, out, sizeof out)
 
 /* The calls, what the header says that each needs, and the most that was measured for each n. */
 static struct {
@@ -145,6 +80,7 @@ static struct {
     {"student_best", student_best, PLACEMENT_STACK_MATCHINGS, {0}},
     {"mentor_best", mentor_best, PLACEMENT_STACK_MATCHINGS, {0}},
     {"repair", repair, PLACEMENT_STACK_MATCHINGS, {0}},
+    {"repair_mentor", repair_mentor, PLACEMENT_STACK_MATCHINGS, {0}},
     {"grade", grade, PLACEMENT_STACK_MATCHINGS, {0}},
     {"rotation_count", rotation_count, PLACEMENT_STACK_MATCHINGS, {0}},
     {"rotations", rotations, PLACEMENT_STACK_ROTATIONS, {0}},
@@ -153,6 +89,7 @@ static struct {
     {"matching_to_set", matching_to_set, PLACEMENT_STACK_ROTATIONS, {0}},
     {"sheet", sheet, PLACEMENT_STACK_MATCHINGS, {0}},
     {"weighted_repair", weighted_repair, PLACEMENT_STACK_MATCHINGS, {0}},
+    {"weighted_repair_mentor", weighted_repair_mentor, PLACEMENT_STACK_MATCHINGS, {0}},
     {"weighted_grade", weighted_grade, PLACEMENT_STACK_MATCHINGS, {0}},
     {"weighted_sheet", weighted_sheet, PLACEMENT_STACK_MATCHINGS, {0}},
 };
@@ -248,9 +185,9 @@ int main(int argc, char **argv)
     for (int k = 1; k < argc; k++) {
         measure_file(argv[k]);
     }
-    printf("%-16s %8s %8s\n", "bytes of stack", "n = 8", "n = 64");
+    printf("%-22s %8s %8s\n", "bytes of stack", "n = 8", "n = 64");
     for (size_t k = 0; k < CALLS; k++) {
-        printf("%-16s %8zu %8zu\n", calls[k].name, calls[k].most[8], calls[k].most[64]);
+        printf("%-22s %8zu %8zu\n", calls[k].name, calls[k].most[8], calls[k].most[64]);
         for (size_t n = 0; n <= PLACEMENT_LARGEST_N; n++) {
             if (calls[k].said < calls[k].most[n]) {
                 printf("%s: %zu bytes for n = %zu, and the header says %zu\n", calls[k].name, calls[k].most[n], n, calls[k].said);

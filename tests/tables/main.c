@@ -125,18 +125,21 @@ static int measured(const struct member *repair, const struct paper_repair *due)
     return far;
 }
 
-/* The answer of the library for the pair: the nearer repair, up where both are as near. It moves one more than b. */
+/* The answer of the library for the pair, by its request and by its mentor: the nearer repair, up where both are as
+ * near. It moves one more than b. */
 static void compare_answer(struct book book, const struct paper_row *due, const struct member *up,
                            const struct member *down)
 {
     int upward = due->up.distance != NONE && (due->down.distance == NONE || due->up.distance <= due->down.distance);
     const struct member *nearer = upward ? up : down;
+    const struct placement_reply moved = answer(upward ? 'U' : 'D', (size_t)due->cost + 1);
     const uint8_t request[2] = {(uint8_t)due->student, (uint8_t)due->mentor};
-    uint8_t matching[7];
+    uint8_t matching[7], by_mentor[7];
     int8_t gains[7];
-    EXPECT(placement_repair(book.bytes, book.length, table_1_m5, 7, request, 2, matching, 7, gains, 7),
-           answer(upward ? 'U' : 'D', (size_t)due->cost + 1));
+    EXPECT(placement_repair(book.bytes, book.length, table_1_m5, 7, request, 2, matching, 7, gains, 7), moved);
+    EXPECT(placement_repair_mentor(book.bytes, book.length, table_1_m5, 7, request[1], by_mentor, 7, gains, 7), moved);
     HOLDS(nearer != NULL && memcmp(matching, nearer->matching, 7) == 0);
+    HOLDS(nearer != NULL && memcmp(by_mentor, nearer->matching, 7) == 0);
 }
 
 /* Table 3: for each student both repairs of his pair, without their names, their distances, and b. */
