@@ -9,6 +9,7 @@ use lib.Seq.{getD-set-same, getD-set-other}
 use Rattle.laws.specs.Choice.{same}
 use Rattle.laws.specs.Values.{vec}
 
+-- l has `room` elements: f i at each i below n, and x from n on
 pub record Entries (room x n : ℕ) (f : ℕ → ℕ) (l : List ℕ) : Type 0 where
   pub here : {i : ℕ} → i < n → vec l i ≡ f i
   pub past : {i : ℕ} → n ≤ i → i < room → vec l i ≡ x

@@ -7,10 +7,9 @@ use lib.ListN.{length}
 use Rattle.format.specs.declared.people.Pair.{Pair}
 use Rattle.format.specs.Verdict.{Verdict, fine, refused, andThen}
 use Rattle.format.specs.Format.{entryIn, pairRow}
-use Rattle.matchings.specs.Matching.{manOf}
 use Rattle.matchings.specs.Partners.{manOrNobody}
 use Rattle.repairs.specs.Request.{askingMan, askingWoman, checkAsked}
-use Rattle.repairs.specs.Mentor.{checkMentor}
+use Rattle.repairs.specs.Mentor.{requestOf, checkMentor}
 use Rattle.repair.specs.declared.asked.Asked.{Asked}
 use Rattle.repair.specs.declared.asked.Asked.the-variants.{Request, Mentor, Nobody}
 use Rattle.repair.specs.declared.asked.Named.{Named}
@@ -25,7 +24,7 @@ Asks q Nobody = length q ≡ 2 → ⊥
 -- The request of two entries for the pair that is asked for; where nobody is, one that has none
 abbrev pub requestFor : ℕ → List ℕ → Asked → List ℕ
 requestFor n m (Request p) = pairRow (p .man .0) (p .woman .0)
-requestFor n m (Mentor w) = pairRow (manOf n m (w .0)) (w .0)
+requestFor n m (Mentor w) = requestOf n m (w .0)
 requestFor n m Nobody = []
 
 -- The rules that come before those of the request: 11 and 12 on the number of a mentor who asks

@@ -42,7 +42,7 @@ pub mentor-refused-unchanged :
     (mentorMatching b m w out gains ≡ out) × (mentorGains b m w out gains ≡ gains)
 mentor-refused-unchanged b m w out gains e =
     let v = checkAsking b m w in
-    let u = checkRequest b m (requestOf b m w) (length out) (length gains) in
+    let u = checkRequest b m (requestOf (people b) m w) (length out) (length gains) in
     (refusal-held v u _ e _ _ out, refusal-held v u _ e _ _ gains)
 
 -- with weights too
@@ -52,7 +52,7 @@ pub weighted-mentor-refused-unchanged :
     (weightedMentorMatching b m k w out gains ≡ out) × (weightedMentorGains b m k w out gains ≡ gains)
 weighted-mentor-refused-unchanged b m k w out gains e =
     let v = checkWeightedAsking b m k w in
-    let u = checkWeightedRequest b m k (requestOf b m w) (length out) (length gains) in
+    let u = checkWeightedRequest b m k (requestOf (people b) m w) (length out) (length gains) in
     (refusal-held v u _ e _ _ out, refusal-held v u _ e _ _ gains)
 
 -- A student and a mentor asked for together, in a stable matching m

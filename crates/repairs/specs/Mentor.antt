@@ -12,11 +12,11 @@ use Rattle.repairs.specs.Weights.{checkWeighed}
 use Rattle.repairs.specs.Repair.{RepairAnswer, repairReply, repairMatching, repairGains}
 use Rattle.repairs.specs.Repair.{weightedReply, weightedMatching, weightedGains}
 
--- The request for her pair: her student, then she
-abbrev pub requestOf : List ℕ → List ℕ → ℕ → List ℕ
-requestOf b m w = pairRow (manOf (people b) m w) w
+-- The request for her pair, for a matching m of n students: her student, then she
+abbrev pub requestOf : ℕ → List ℕ → ℕ → List ℕ
+requestOf n m w = pairRow (manOf n m w) w
 
--- Rules 11 and 12 on her number, for a matching m of n students: it is n or more; she is alone
+-- Rules 11 and 12 on her number: it is n or more; she is alone
 unfoldable pub checkMentor : ℕ → List ℕ → ℕ → Verdict
 checkMentor n m w = rule (leb n w) 11 0 (rule (womanAlone n m w) 12 0 fine)
 
@@ -29,23 +29,23 @@ checkWeightedAsking b m k w = andThen (checkWeighed b m k) (checkMentor (people 
 
 -- The reply, and the two buffers afterwards: where nothing of this is refused, those of the request for her pair
 abbrev pub mentorReply : List ℕ → List ℕ → ℕ → List ℕ → List ℤ → Outcome RepairAnswer
-mentorReply b m w out gains = orRefused (checkAsking b m w) (repairReply b m (requestOf b m w) out gains)
+mentorReply b m w out gains = orRefused (checkAsking b m w) (repairReply b m (requestOf (people b) m w) out gains)
 
 abbrev pub mentorMatching : List ℕ → List ℕ → ℕ → List ℕ → List ℤ → List ℕ
-mentorMatching b m w out gains = orHeld (checkAsking b m w) (repairMatching b m (requestOf b m w) out gains) out
+mentorMatching b m w out gains = orHeld (checkAsking b m w) (repairMatching b m (requestOf (people b) m w) out gains) out
 
 abbrev pub mentorGains : List ℕ → List ℕ → ℕ → List ℕ → List ℤ → List ℤ
-mentorGains b m w out gains = orHeld (checkAsking b m w) (repairGains b m (requestOf b m w) out gains) gains
+mentorGains b m w out gains = orHeld (checkAsking b m w) (repairGains b m (requestOf (people b) m w) out gains) gains
 
 -- and with the weights k
 abbrev pub weightedMentorReply : List ℕ → List ℕ → List ℕ → ℕ → List ℕ → List ℤ → Outcome RepairAnswer
 weightedMentorReply b m k w out gains =
-    orRefused (checkWeightedAsking b m k w) (weightedReply b m k (requestOf b m w) out gains)
+    orRefused (checkWeightedAsking b m k w) (weightedReply b m k (requestOf (people b) m w) out gains)
 
 abbrev pub weightedMentorMatching : List ℕ → List ℕ → List ℕ → ℕ → List ℕ → List ℤ → List ℕ
 weightedMentorMatching b m k w out gains =
-    orHeld (checkWeightedAsking b m k w) (weightedMatching b m k (requestOf b m w) out gains) out
+    orHeld (checkWeightedAsking b m k w) (weightedMatching b m k (requestOf (people b) m w) out gains) out
 
 abbrev pub weightedMentorGains : List ℕ → List ℕ → List ℕ → ℕ → List ℕ → List ℤ → List ℤ
 weightedMentorGains b m k w out gains =
-    orHeld (checkWeightedAsking b m k w) (weightedGains b m k (requestOf b m w) out gains) gains
+    orHeld (checkWeightedAsking b m k w) (weightedGains b m k (requestOf (people b) m w) out gains) gains

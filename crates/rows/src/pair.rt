@@ -48,13 +48,21 @@ pub fn pair_in(request: &[u8]) -> Pair
     Pair { man, woman }
 }
 
+// The entry of the person with a number in a row.
+fn entry_of(row: &[u8], person: u8) -> u8
+    requires { ⌜ person < length (now row) ⌝ }
+    ensures { λ r. ⌜ r ≡ entryIn (now₀ row) person ⌝ }
+{
+    let i = wide(person);
+    row[i]
+}
+
 // The woman of a man in a matching, or that he is alone.
 pub fn partner_of(matching: &[u8], m: Man) -> Partner
     requires { ⌜ m .0 < length (now matching) ⌝ }
     ensures { λ r. ⌜ PartnerIs (entryIn (now₀ matching) (m .0)) r ⌝ }
 {
-    let i = wide(m.0);
-    let entry = matching[i];
+    let entry = entry_of(matching, m.0);
     if entry == NOBODY {
         return Partner::Alone;
     }
@@ -85,8 +93,7 @@ pub fn holder_of(men: &[u8], w: Woman) -> Holder
     requires { ⌜ w .0 < length (now men) ⌝ }
     ensures { λ r. ⌜ HolderIs (entryIn (now₀ men) (w .0)) r ⌝ }
 {
-    let i = wide(w.0);
-    let entry = men[i];
+    let entry = entry_of(men, w.0);
     if entry == NOBODY {
         return Holder::Alone;
     }

@@ -2,13 +2,14 @@
 -- mentors' side each has her student. Assumes nothing.
 use Prim.Native.Nat.{ℕ, _≤_, _<_}
 use mathlib.Core.Path.{_≡_, sym, _∙_, ap}
+use mathlib.Core.Bool.{Bool}
 use mathlib.Core.Logic.{_↔_}
 use mathlib.Core.List.{List}
 use native.Mathlib.Omega.{arith}
 use lib.ListN.{length, take}
 use lib.Seq.{length-take-le, getD-take}
 use borrow.Author.Tests.{lt-leb, le-leb}
-use Rattle.laws.specs.Choice.{split}
+use Rattle.laws.specs.Choice.{pick, split}
 use Rattle.format.specs.Format.{largest, nobody, entryIn}
 use Rattle.format.specs.Laws.Rows.{entry-read, entries-same}
 use Rattle.matchings.specs.declared.partners.Partners.{Partners}
@@ -19,10 +20,10 @@ use Rattle.matchings.specs.Laws.Blocking.{man-of-has, man-of-once}
 -- a mentor who is alone has nobody, and one who is somebody's has him
 module _ (n : ℕ) (m : List ℕ) (w : ℕ) where
   pub man-none : n ≤ manOf n m w → manOrNobody n m w ≡ nobody
-  man-none l = rw (le-leb n (manOf n m w) l)
+  man-none l = ap (λ (t : Bool). pick t nobody (manOf n m w)) (le-leb n (manOf n m w) l)
 
   pub man-held : manOf n m w < n → manOrNobody n m w ≡ manOf n m w
-  man-held l = rw (lt-leb n (manOf n m w) l)
+  man-held l = ap (λ (t : Bool). pick t nobody (manOf n m w)) (lt-leb n (manOf n m w) l)
 
   -- so who is not nobody is her student
   pub held-man : (manOrNobody n m w ≡ nobody → ⊥) → manOf n m w < n

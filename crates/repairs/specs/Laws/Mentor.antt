@@ -50,7 +50,7 @@ module _ (b m : List ℕ) (s : ℕ) (f : checkMatching b m ≡ fine) (P : PairIn
   held : manOf (people b) m (womanOf m s) ≡ s
   held = man-of-of (fine-stable b m .0 f .matching) (P .student) (P .mentor)
 
-  hers : requestOf b m (womanOf m s) ≡ pairOf m s
+  hers : requestOf (people b) m (womanOf m s) ≡ pairOf m s
   hers = ap (λ (i : ℕ). pairRow i (womanOf m s)) held
 
   known : checkMentor (people b) m (womanOf m s) ≡ fine
@@ -65,19 +65,19 @@ module _ (b m : List ℕ) (s : ℕ) (f : checkMatching b m ≡ fine) (P : PairIn
     own q = andThen v (checkAsked (people b) m q room gainsRoom)
 
     pub reply-hers :
-        orRefused first (replyAfter (own (requestOf b m (womanOf m s))) c b m (requestOf b m (womanOf m s)))
+        orRefused first (replyAfter (own (requestOf (people b) m (womanOf m s))) c b m (requestOf (people b) m (womanOf m s)))
         ≡ replyAfter (own (pairOf m s)) c b m (pairOf m s)
     reply-hers = ap₂ (λ (p : Verdict) (q : List ℕ). orRefused (andThen v p) (replyAfter (own q) c b m q)) known hers ∙ in-turn v fine _ _
 
     pub matching-hers : (out : List ℕ) →
-        orHeld first (matchingAfter (own (requestOf b m (womanOf m s))) c b m (requestOf b m (womanOf m s)) out) out
+        orHeld first (matchingAfter (own (requestOf (people b) m (womanOf m s))) c b m (requestOf (people b) m (womanOf m s)) out) out
         ≡ matchingAfter (own (pairOf m s)) c b m (pairOf m s) out
     matching-hers out =
         ap₂ (λ (p : Verdict) (q : List ℕ). orHeld (andThen v p) (matchingAfter (own q) c b m q out) out) known hers
         ∙ held-in-turn v fine _ _ _ out
 
     pub gains-hers : (gains : List ℤ) →
-        orHeld first (gainsAfter (own (requestOf b m (womanOf m s))) c b m (requestOf b m (womanOf m s)) gains) gains
+        orHeld first (gainsAfter (own (requestOf (people b) m (womanOf m s))) c b m (requestOf (people b) m (womanOf m s)) gains) gains
         ≡ gainsAfter (own (pairOf m s)) c b m (pairOf m s) gains
     gains-hers gains =
         ap₂ (λ (p : Verdict) (q : List ℕ). orHeld (andThen v p) (gainsAfter (own q) c b m q gains) gains) known hers
@@ -96,21 +96,21 @@ module _ (b m : List ℕ) (w : ℕ) {u v : Verdict} (e : u ≡ v) where
 -- With every weight 1
 module _ (b m k : List ℕ) (E : checkMatching b m ≡ fine → UnitWeights (people b) k) (w : ℕ) (out : List ℕ) (gains : List ℤ) where
   pub unit-mentor-reply : weightedMentorReply b m k w out gains ≡ mentorReply b m w out gains
-  unit-mentor-reply = alike-reply b m w (unit-weighed b m k E) (unit-reply b m k E (requestOf b m w) out gains)
+  unit-mentor-reply = alike-reply b m w (unit-weighed b m k E) (unit-reply b m k E (requestOf (people b) m w) out gains)
 
   pub unit-mentor-matching : weightedMentorMatching b m k w out gains ≡ mentorMatching b m w out gains
-  unit-mentor-matching = alike-held b m w (unit-weighed b m k E) out (unit-matching b m k E (requestOf b m w) out gains)
+  unit-mentor-matching = alike-held b m w (unit-weighed b m k E) out (unit-matching b m k E (requestOf (people b) m w) out gains)
 
   pub unit-mentor-gains : weightedMentorGains b m k w out gains ≡ mentorGains b m w out gains
-  unit-mentor-gains = alike-held b m w (unit-weighed b m k E) gains (unit-gains b m k E (requestOf b m w) out gains)
+  unit-mentor-gains = alike-held b m w (unit-weighed b m k E) gains (unit-gains b m k E (requestOf (people b) m w) out gains)
 
 -- One weight more than the largest n
 module _ (b m k : List ℕ) (w : ℕ) (out : List ℕ) (gains : List ℤ) where
   pub cut-mentor-reply : weightedMentorReply b m (take (largest + 1) k) w out gains ≡ weightedMentorReply b m k w out gains
-  cut-mentor-reply = alike-reply b m w (cut-weighed b m k) (cut-reply b m k (requestOf b m w) out gains)
+  cut-mentor-reply = alike-reply b m w (cut-weighed b m k) (cut-reply b m k (requestOf (people b) m w) out gains)
 
   pub cut-mentor-matching : weightedMentorMatching b m (take (largest + 1) k) w out gains ≡ weightedMentorMatching b m k w out gains
-  cut-mentor-matching = alike-held b m w (cut-weighed b m k) out (cut-matching b m k (requestOf b m w) out gains)
+  cut-mentor-matching = alike-held b m w (cut-weighed b m k) out (cut-matching b m k (requestOf (people b) m w) out gains)
 
   pub cut-mentor-gains : weightedMentorGains b m (take (largest + 1) k) w out gains ≡ weightedMentorGains b m k w out gains
-  cut-mentor-gains = alike-held b m w (cut-weighed b m k) gains (cut-gains b m k (requestOf b m w) out gains)
+  cut-mentor-gains = alike-held b m w (cut-weighed b m k) gains (cut-gains b m k (requestOf (people b) m w) out gains)
