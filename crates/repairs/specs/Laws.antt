@@ -8,6 +8,7 @@ pub mod MovedGains
 pub mod Request
 pub mod Demand3
 pub mod OneRepair
+pub mod BetweenBytes
 pub mod FixedBytes
 pub mod GradeBytes
 pub mod GradeBound

@@ -5,8 +5,10 @@ pub mod Repair
 pub mod Mentor
 pub mod Grade
 pub mod Promise
+pub mod Between
 pub mod Demand1
 pub mod Demand3
 pub mod WeightedDemand3
 pub mod MentorDemand
+pub mod BetweenDemand
 pub mod Laws

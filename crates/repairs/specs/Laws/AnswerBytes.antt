@@ -12,7 +12,7 @@ use Rattle.laws.specs.Values.{length-values}
 use Rattle.format.specs.Verdict.{fine}
 use Rattle.format.specs.Outcome.{gives, filled}
 use Rattle.format.specs.Format.{people}
-use Rattle.stable_theory.specs.Repairs.Repair.{Parts, Fixed, IsDown, IsUp, weight}
+use Rattle.stable_theory.specs.Repairs.Repair.{Parts, Fixed, weight}
 use Rattle.stable_theory.specs.Repairs.Answer.{Answer, F, Answers, nearer-up, nearer-down, neither, Nearest}
 use Rattle.stable_theory.specs.Repairs.AnswerLaws.{answer-right}
 use Rattle.stable_theory.specs.Repairs.RobustLaws.{all-answers}
@@ -25,8 +25,8 @@ use Rattle.matchings.specs.Laws.StableVector.{place-rank, matching-of, vector-s
 use Rattle.repairs.specs.Weights.{movedWeight}
 use Rattle.repairs.specs.Repair.{fixed, answerFor, withDistance, entriesFor, matchingFor}
 use Rattle.repairs.specs.Laws.Bytes.{same-woman, moved-weight, moved-vector}
-use Rattle.repairs.specs.Laws.RepairBytes.{RepairAt, holds, without-parts, repair-bytes, repair-vector}
-use Rattle.repairs.specs.Promise.{PairIn, InEvery, Without, NoWorse, NoBetter, Takes, takes-up, takes-down, Lightest}
+use Rattle.repairs.specs.Laws.RepairBytes.{up-at, at-up, down-at, at-down, holds, without-parts, repair-bytes, repair-vector}
+use Rattle.repairs.specs.Promise.{PairIn, InEvery, Without, Takes, takes-up, takes-down, Lightest}
 
 -- the n bytes that are written are the matching
 pub written-bytes : (b : List ℕ) (v : ℕ → ℕ) (out : List ℕ) → take (people b) (matchingOf b v ++ drop (people b) out) ≡ matchingOf b v
@@ -36,19 +36,6 @@ module _ {b m : List ℕ} (S : StableIn b m) {s : ℕ} (P : PairIn b m s) where
   -- he is a student of the book
   student : s < people b
   student = P .student
-
-  -- up and down with the relation of their side
-  up-at : {v : ℕ → ℕ} → IsUp (market b) (vectorOf b m) s v → RepairAt NoWorse (market b) (vectorOf b m) s v
-  up-at K = record { parts = K .parts; toward = K .before; last = λ P le. K .last P le }
-
-  at-up : {v : ℕ → ℕ} → RepairAt NoWorse (market b) (vectorOf b m) s v → IsUp (market b) (vectorOf b m) s v
-  at-up K = record { parts = K .parts; before = K .toward; last = λ P le. K .last P le }
-
-  down-at : {v : ℕ → ℕ} → IsDown (market b) (vectorOf b m) s v → RepairAt NoBetter (market b) (vectorOf b m) s v
-  down-at K = record { parts = K .parts; toward = K .after; last = λ P le. K .first P le }
-
-  at-down : {v : ℕ → ℕ} → RepairAt NoBetter (market b) (vectorOf b m) s v → IsDown (market b) (vectorOf b m) s v
-  at-down K = record { parts = K .parts; after = K .toward; first = λ P le. K .last P le }
 
   -- the pair is fixed in vectors exactly where it is in bytes
   pub every-fixed : InEvery b m s → Fixed (market b) (vectorOf b m) s

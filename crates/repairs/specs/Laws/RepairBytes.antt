@@ -8,20 +8,33 @@ use Rattle.format.specs.WellFormed.{WellFormed}
 use Rattle.stable_theory.specs.Stable.Market.{Market, Proper}
 use Rattle.stable_theory.specs.Stable.Vector.{Holds, Stable}
 use Rattle.stable_theory.specs.Matchings.MatchingLaws.{places-holds}
-use Rattle.stable_theory.specs.Repairs.Repair.{Parts}
+use Rattle.stable_theory.specs.Repairs.Repair.{Parts, IsDown, IsUp}
 use Rattle.matchings.specs.BookMarket.{market, market-proper}
 use Rattle.matchings.specs.Matching.{vectorOf, MatchingIn, StableIn, womanOf}
 use Rattle.matchings.specs.Extreme.{matchingOf}
 use Rattle.matchings.specs.Laws.StableCheck.{fine-stable}
 use Rattle.matchings.specs.Laws.StableVector.{matching-in, place-rank, matching-of, vector-stable, fine-vector, vector-fine, vector-back}
 use Rattle.repairs.specs.Laws.Bytes.{same-woman, vector-place}
-use Rattle.repairs.specs.Promise.{PairIn, Without, Repaired}
+use Rattle.repairs.specs.Promise.{PairIn, Without, NoWorse, NoBetter, Repaired}
 
 -- The repair on one side, of vectors: IsUp and IsDown with the relation of their side
 pub record RepairAt (R : ℕ → ℕ → Type 0) (I : Market) (p : ℕ → ℕ) (s : ℕ) (v : ℕ → ℕ) : Type 0 where
   pub parts : Parts I p s v
   pub toward : (i : ℕ) → i < I .proposers .size → R (v i) (p i)
   pub last : {k : ℕ → ℕ} → Parts I p s k → ((i : ℕ) → i < I .proposers .size → R (k i) (p i)) → (i : ℕ) → i < I .proposers .size → R (k i) (v i)
+
+module _ {I : Market} {p : ℕ → ℕ} {s : ℕ} {v : ℕ → ℕ} where
+  pub up-at : IsUp I p s v → RepairAt NoWorse I p s v
+  up-at K = record { parts = K .parts; toward = K .before; last = λ L le. K .last L le }
+
+  pub at-up : RepairAt NoWorse I p s v → IsUp I p s v
+  at-up K = record { parts = K .parts; before = K .toward; last = λ L le. K .last L le }
+
+  pub down-at : IsDown I p s v → RepairAt NoBetter I p s v
+  down-at K = record { parts = K .parts; toward = K .after; last = λ L le. K .first L le }
+
+  pub at-down : RepairAt NoBetter I p s v → IsDown I p s v
+  at-down K = record { parts = K .parts; after = K .toward; first = λ L le. K .last L le }
 
 module _ {b m : List ℕ} (S : StableIn b m) where
   -- m is a matching of a well formed book, and its vector is stable
