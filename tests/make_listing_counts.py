@@ -1,8 +1,9 @@
 #!/usr/bin/env python3
 """The counts of the first part of tests/listing_compare, from document 01's definitions over all matchings and, for
-weights, short lists, sheets without a grade and mentors who ask, from W-201 and W-203 to W-205 of document 02.
+weights, short lists, sheets without a grade, mentors who ask and whom a repair moves, from W-201 and W-203 to W-206 of
+document 02.
 
-    tests/make_listing_counts.py            prints them, in half a minute
+    tests/make_listing_counts.py            prints them, in three quarters of a minute
     tests/make_listing_counts.py --check    says whether tests/listing_compare/expected begins with them
 
 The books and what is asked of them are those of tests/listing_compare; no code is taken from there or from
@@ -54,6 +55,7 @@ class Counts(collections.Counter):
                 self["students alone"] += 1
                 self["refusals"] += 2  # the student with nobody, and with mentor 0
             else:
+                self.beside(book, m, s)
                 answers[s] = answer(*book.moved(m, s), ones)
                 self["answers " + answers[s][0]] += 1
                 self["refusals"] += 1  # the student with the mentor after his own
@@ -65,6 +67,16 @@ class Counts(collections.Counter):
         if rotations:
             marks[number % len(rotations)] ^= 1
             self.set(marks, before)
+
+    def beside(self, book, m, s):
+        """Both repairs of a pair beside the stable matchings that part it on their side: the students whom these move
+        and the repair leaves, and those whom the repair moves less far."""
+        for words, (repair, others) in zip(BESIDE, book.beside(m, s), strict=True):
+            for x in others:
+                self[words[0]] += 1
+                for old, new, far in book.places(m, repair, x):
+                    self[words[1]] += old == new != far
+                    self[words[2]] += old != new != far
 
     def weighted(self, book, m, tables):
         """A stable matching with each of some tables of weights."""
@@ -182,8 +194,13 @@ SHOWN += ["a fixed pair and a student without a mentor", "the grade 0 and a repa
 SHORT_WORDS = ["books refused as one-sided", "books with rotations", "books with somebody alone on each side"]
 SHORT_WORDS += ["books with both", "students alone", "mentors alone"]
 SHORT_WORDS += ["searches that a mentor who is alone ends before a willing one"]
+BESIDE = [
+    [f"stable matchings beside {r}", f"students whom {r} leaves and these move", f"students whom {r} moves less far"]
+    for r in ("repair up", "repair down")
+]
 WORDS = ["books", "matchings", "stable matchings", "answers U", "answers D", "answers F"]
 WORDS += [f"answers by mentor {letter}" for letter in "UDF"]
+WORDS += [word for beside in BESIDE for word in beside]
 WORDS += ["refusals", "rotations", "sets", "sheets"] + [f"sheets with {kind}" for kind in SHOWN]
 WORDS += ["weighted matchings", "weighted answers U", "weighted answers D", "weighted answers F"]
 WORDS += [f"weighted answers by mentor {letter}" for letter in "UDF"]

@@ -60,6 +60,7 @@ void test_weights(void);
 void test_weight_rules(void);
 void test_weighted_sheet(void);
 void test_mentor(void);
+void test_between(void);
 void test_short_book(void);
 void test_short_matching(void);
 void test_short_repair(void);

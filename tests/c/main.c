@@ -16,6 +16,7 @@ int main(void)
     test_weight_rules();
     test_weighted_sheet();
     test_mentor();
+    test_between();
     test_short_book();
     test_short_matching();
     test_short_repair();

@@ -1,5 +1,5 @@
-"""A book and what is defined of it: by document 01 over all matchings, and for weights, short lists and matchings
-without a grade by W-201, W-203 and W-204 of document 02."""
+"""A book and what is defined of it: by document 01 over all matchings, and for weights, short lists, matchings without
+a grade and whom a repair moves by W-201, W-203, W-204 and W-206 of document 02."""
 import math
 
 NOBODY = 255
@@ -118,27 +118,51 @@ class Book:
 
     # Repairs
 
-    def moved(self, m, s):
-        """The students whom repair up of a student's pair moves, and repair down, None where there is none; then for
-        each stable matching without the pair those whom it moves."""
+    def repairs(self, m, s):
+        """Repair up of a student's pair, and repair down, None where there is none."""
         without = [x for x in self.all_stable if x[s] != m[s]]
 
         def no_worse(x, y):
             return all(self.place(i, x[i]) <= self.place(i, y[i]) for i in range(self.n))
-
-        def of(x):
-            return [i for i in range(self.n) if x[i] != m[i]]
 
         def extreme(those, choose):
             if not those:
                 return None
             one = tuple(choose((x[i] for x in those), key=lambda t, i=i: self.place(i, t)) for i in range(self.n))
             assert one in those
-            return of(one)
+            return one
 
         up = extreme([x for x in without if no_worse(x, m)], max)
         down = extreme([x for x in without if no_worse(m, x)], min)
-        return up, down, [of(x) for x in without]
+        return up, down
+
+    def moved(self, m, s):
+        """The students whom repair up of a student's pair moves, and repair down, None where there is none; then for
+        each stable matching without the pair those whom it moves."""
+
+        def of(x):
+            return None if x is None else [i for i in range(self.n) if x[i] != m[i]]
+
+        up, down = self.repairs(m, s)
+        return of(up), of(down), [of(x) for x in self.all_stable if x[s] != m[s]]
+
+    def beside(self, m, s):
+        """Repair up with the stable matchings in which the student is better off, and repair down with those in which
+        he is worse off. Each student's mentor in a repair stands between (W-206)."""
+        given = self.place(s, m[s])
+        better = [x for x in self.all_stable if self.place(s, x[s]) < given]
+        worse = [x for x in self.all_stable if self.place(s, x[s]) > given]
+        both = list(zip(self.repairs(m, s), (better, worse), strict=True))
+        for repair, others in both:
+            assert (repair is None) == (not others)
+            for x in others:
+                for places in self.places(m, repair, x):
+                    assert sorted(places)[1] == places[1]
+        return both
+
+    def places(self, m, repair, x):
+        """Of each student the place of his mentor in three matchings."""
+        return [[self.place(i, y[i]) for y in (m, repair, x)] for i in range(self.n)]
 
 
 def answer(up, down, without, weights):

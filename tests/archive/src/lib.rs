@@ -1,6 +1,8 @@
 //! The functions of include/placement.h as the linked archive has them, over slices. An empty slice is passed as a
-//! null pointer and length 0. `printed` reads a sheet back.
+//! null pointer and length 0. `between` looks at a repaired matching beside another stable one, `printed` reads a sheet
+//! back.
 
+pub mod between;
 mod c;
 pub mod printed;
 

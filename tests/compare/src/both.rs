@@ -1,6 +1,7 @@
 //! Each call on both libraries, with equal inputs and equal result buffers, compared in reply and in every byte of the
 //! buffers and of the guard bytes before and after them. What the archive reports of a repair is recounted from its
-//! gains. The calls for a sheet stand in `printed`, those by a mentor's number in `by_mentor`.
+//! gains, and what it writes held against other stable matchings in `between`. The calls for a sheet stand in
+//! `printed`, those by a mentor's number in `by_mentor`.
 
 use crate::tally::{hex, Tally};
 use independent::calls;
@@ -13,6 +14,8 @@ const GUARD: usize = 32;
 pub struct Both {
     pub random: Random,
     pub tally: Tally,
+    /// Stable matchings of the book that is asked, to be looked at beside repairs.
+    pub beside: Vec<Vec<u8>>,
 }
 
 /// A result buffer of some length between guard bytes, filled at random.
@@ -50,7 +53,7 @@ impl Lent {
 
 impl Both {
     pub fn new(seed: u64) -> Both {
-        Both { random: Random::new(seed), tally: Tally::default() }
+        Both { random: Random::new(seed), tally: Tally::default(), beside: vec![] }
     }
 
     /// Compares the replies of a call without a result buffer.
@@ -111,6 +114,7 @@ impl Both {
             self.tally.differ(&call, inputs, a, b);
         }
         self.recount(call, inputs, weights, a, gains.signed());
+        self.compare_between(call, inputs, a, &mut out);
         b
     }
 

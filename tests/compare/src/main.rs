@@ -4,6 +4,7 @@
 //!
 //!     compare [SECONDS] [SEED]
 
+mod between;
 mod both;
 mod by_mentor;
 mod damage;

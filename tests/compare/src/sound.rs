@@ -1,5 +1,6 @@
 //! Questions to a well-formed book: good ones, and ones that break each rule after the book's.
 
+use crate::between::BESIDE;
 use crate::both::Both;
 use crate::by_mentor;
 use crate::weights;
@@ -35,6 +36,7 @@ impl Sound {
         self.ask_rotations(both);
         self.ask_sets(both);
         let matchings = self.matchings(&mut both.random);
+        both.beside = self.beside(&matchings, &mut both.random);
         for matching in &matchings {
             both.tally.matchings += 1;
             self.ask_matching(both, matching);
@@ -43,6 +45,7 @@ impl Sound {
         self.ask_bad_requests(both, &matchings[0]);
         self.ask_bad_weights(both, &matchings[0]);
         self.ask_bad_mentors(both, &matchings[0]);
+        both.beside.clear();
         assert_eq!(self.book, before, "a call has written to the book");
     }
 
@@ -142,6 +145,13 @@ impl Sound {
         let first = random.below(sets.len());
         sets.swap(0, first);
         sets.iter().map(|set| self.poset.matching(set)[..self.n].to_vec()).collect()
+    }
+
+    /// Stable matchings to be looked at beside repairs: the two extreme ones, and some of those that are asked.
+    fn beside(&self, matchings: &[Vec<u8>], random: &mut Random) -> Vec<Vec<u8>> {
+        let extreme = [0, 1].map(|mark| self.poset.matching(&vec![mark; self.poset.count()])[..self.n].to_vec());
+        let some = (0..BESIDE - 2).map(|_| matchings[random.below(matchings.len())].clone());
+        extreme.into_iter().chain(some).collect()
     }
 
     /// A stable matching: its set, its grade, its sheet and the repairs of all its pairs, plain and weighted, also by

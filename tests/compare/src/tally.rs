@@ -30,6 +30,9 @@ pub struct Tally {
     pub weightless: usize,
     /// Repairs by each of the calls that move students who weigh more than 0 and leave others who do.
     pub mixed: [usize; REPAIRS.len()],
+    /// Stable matchings beside repairs up, and beside repairs down: all, and those that move students whom the repair
+    /// leaves.
+    pub beside: [[usize; 2]; 2],
     /// Sheets of each kind, plain and weighted.
     pub shown: [[usize; KINDS.len()]; 2],
     /// Refusals by number; at 0 the calls that were not refused.
@@ -81,6 +84,13 @@ impl Tally {
         self.mixed[repair] += (moved > 0 && left > 0) as usize;
     }
 
+    /// Counts a stable matching beside a repair with this letter, by how many students it moves and the repair leaves.
+    pub fn count_beside(&mut self, letter: char, left: usize) {
+        let [all, leaving] = &mut self.beside[(letter == 'D') as usize];
+        *all += 1;
+        *leaving += (left > 0) as usize;
+    }
+
     /// Counts a sheet by its kinds.
     pub fn count_shown(&mut self, call: &str, printed: &Printed) {
         let sheet = SHEETS.iter().position(|&sheet| sheet == call).expect("one of these calls");
@@ -123,6 +133,8 @@ impl Tally {
         let weightless = (self.weightless == 0).then(|| "repair of weight 0".to_string());
         let mixed = REPAIRS.iter().zip(self.mixed).filter(|(_, times)| *times == 0);
         let mixed = mixed.map(|(call, _)| format!("{call} that moves students and leaves others"));
+        let beside = (0..2).filter(|&k| self.beside[k][1] == 0);
+        let beside = beside.map(|k| format!("repair {} that leaves whom a stable matching moves", ["up", "down"][k]));
         let shown = self.shown().filter(|&(_, _, times)| times == 0);
         let shown = shown.map(|(call, kind, _)| format!("{call} with {}", kind.words()));
         let books = large.chain(short);
@@ -133,6 +145,7 @@ impl Tally {
             .chain(turned)
             .chain(weightless)
             .chain(mixed)
+            .chain(beside)
             .chain(shown)
             .collect()
     }
@@ -146,6 +159,9 @@ impl Tally {
         println!("weights: {turned_up} D to U, {turned_down} U to D, {} totals of 0", self.weightless);
         for (call, times) in REPAIRS.iter().zip(self.mixed) {
             println!("{call} that moves students and leaves others: {times}");
+        }
+        for (repairs, [all, leaving]) in ["repairs up", "repairs down"].iter().zip(self.beside) {
+            println!("stable matchings beside {repairs}: {all}, of which {leaving} move students whom these leave");
         }
         self.shown().for_each(|(call, kind, times)| println!("{call} with {}: {times}", kind.words()));
         print_refusals("refused", &self.refusals);

@@ -4,8 +4,8 @@
 //! go up to 64.
 //!
 //! Document 01's students are men here and its mentors women, as in its source. Quotation marks hold its sentences,
-//! and on weights, short lists, the first line of the sheet and mentors who ask those of document 02's W-201, W-203 to
-//! W-205.
+//! and on weights, short lists, the first line of the sheet, mentors who ask and whom a repair moves those of document
+//! 02's W-201 and W-203 to W-206.
 //!
 //! - `people`: a man's number and a woman's
 //! - `reply`: what a call answers, refusals
@@ -17,10 +17,12 @@
 //! - `runs`: runs of eliminations, precedence, closed sets and their matchings
 //! - `weights`: rule 17, the total weight of the men whom a matching moves
 //! - `repair`: fixed pairs and their number, repairs up and down, the answer, the grade
+//! - `between`: a repair beside the stable matchings that part the pair on the same side
 //! - `sheet`: the printed sheet, plain and weighted
 //! - `asked`, `repair_calls`: the calls of include/placement.h
 
 pub mod asked;
+pub mod between;
 pub mod book;
 pub mod lists;
 pub mod matching;

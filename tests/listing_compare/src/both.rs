@@ -1,7 +1,7 @@
 //! Each call on the archive and on the listing, with equal inputs and equal result buffers, compared in every field
 //! of the reply and in every byte of the buffers and of the guard bytes around them. What the archive reports of a
-//! repair is recounted from its gains. The calls for a sheet stand in `printed`, those by a mentor's number in
-//! `by_mentor`.
+//! repair is recounted from its gains, and what it writes held against other stable matchings in `between`. The calls
+//! for a sheet stand in `printed`, those by a mentor's number in `by_mentor`.
 
 use crate::calls::Call;
 use crate::lent::Lent;
@@ -24,6 +24,11 @@ fn in_c(reply: listing::reply::Reply) -> Reply {
 /// The reply of a grade call: the value is `NO_GRADE` where no pair can be repaired.
 fn grade_in_c(grade: Result<Option<usize>, Refusal>) -> listing::reply::Reply {
     granted(grade?.unwrap_or(NO_GRADE))
+}
+
+/// The mentor of a request: its last byte.
+fn mentor_of(request: &[u8]) -> u8 {
+    request.last().copied().unwrap_or(0)
 }
 
 /// Both sides, with the tally of what was compared.
@@ -71,7 +76,7 @@ impl Both {
     }
 
     /// Makes a call for a repair with these weights, and result buffers of these lengths for a matching and for gains,
-    /// on both sides; the reply that is due.
+    /// on both sides: reply and matching buffer of the archive, and those due.
     pub fn lending_both(
         &mut self,
         call: Call,
@@ -80,7 +85,7 @@ impl Both {
         (room, gains_room): (usize, usize),
         archive: impl Fn(&mut [u8], &mut [i8]) -> Reply,
         listing: impl Fn(&mut [u8], &mut [i8]) -> listing::reply::Reply,
-    ) -> Reply {
+    ) -> [(Reply, Lent<u8>); 2] {
         let (mut one, mut other) = (Lent::bytes(room), Lent::bytes(room));
         let (mut gains, mut due_gains) = (Lent::gains(gains_room), Lent::gains(gains_room));
         let given = archive(one.buffer(), gains.buffer());
@@ -92,7 +97,7 @@ impl Both {
             self.tally.differ(format!("{call:?} {inputs:?}, rooms {room} {gains_room}\n  archive {a}\n  due     {b}"));
         }
         self.recount(call, inputs, weights, given, gains.buffer());
-        due
+        [(given, one), (due, other)]
     }
 
     /// W-202: a repair up or down reports the total weight of the students whose gains are not 0.
@@ -168,7 +173,9 @@ impl Both {
         let inputs = [book.book(), matching, request];
         let archive = |out: &mut [u8], gains: &mut [i8]| archive::repair(book.book(), matching, request, out, gains);
         let listing = |out: &mut [u8], gains: &mut [i8]| book.repair(matching, request, out, gains);
-        self.lending_both(Call::Repair, &inputs, &vec![1; matching.len()], (room, gains_room), archive, listing)
+        let rooms = (room, gains_room);
+        let both = self.lending_both(Call::Repair, &inputs, &vec![1; matching.len()], rooms, archive, listing);
+        self.compare_between(Call::Repair, book, matching, mentor_of(request), both)
     }
 
     /// The grade of a matching.
@@ -225,7 +232,8 @@ impl Both {
         };
         let listing = |out: &mut [u8], gains: &mut [i8]| book.weighted_repair(matching, weights, request, out, gains);
         let inputs = [book.book(), matching, weights, request];
-        self.lending_both(Call::WeightedRepair, &inputs, weights, rooms, archive, listing)
+        let both = self.lending_both(Call::WeightedRepair, &inputs, weights, rooms, archive, listing);
+        self.compare_between(Call::WeightedRepair, book, matching, mentor_of(request), both)
     }
 
     /// The weighted grade of a matching: the reply that is due.

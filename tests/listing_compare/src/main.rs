@@ -3,8 +3,10 @@
 //! breaks a rule. A third part holds the archive against itself, on books of both editions with the same full lists.
 //! Prints how much was compared and how often each rule was met. Exits with 1 on any difference, or where a call
 //! never gave a result or never met one of its rules, or no sheet printed a refusal that it can or was of a kind that
-//! it can be, or no repair moved students and left others, in each edition.
+//! it can be, or no repair moved students and left others, or none left a student whom a stable matching on its side
+//! moves, in each edition.
 
+mod between;
 mod beyond;
 mod books;
 mod both;

@@ -23,6 +23,11 @@ pub fn sound(tally: &Tally) {
     println!("stable matchings {}", tally.stable_matchings);
     letters("answers", tally.letters);
     letters("answers by mentor", tally.letters_by_mentor);
+    for (repair, beside) in ["repair up", "repair down"].iter().zip(tally.beside) {
+        println!("stable matchings beside {repair} {}", beside.matchings);
+        println!("students whom {repair} leaves and these move {}", beside.left);
+        println!("students whom {repair} moves less far {}", beside.inside);
+    }
     println!("refusals {}", tally.refusals());
     println!("rotations {}", tally.rotations);
     println!("sets {}", tally.sets);
@@ -67,7 +72,8 @@ pub fn editions(tally: &Tally) {
     println!("differences {}", tally.differences);
 }
 
-/// How often each rule was met in the first two parts, and how many repairs moved students and left others.
+/// How often each rule was met in the first two parts, how many repairs moved students and left others, and how many
+/// stable matchings stood beside what the archive wrote.
 pub fn rules(tally: &Tally) {
     println!("calls of both parts {}", tally.calls());
     for rule in 1..RULES {
@@ -78,7 +84,10 @@ pub fn rules(tally: &Tally) {
     for (words, call) in
         ["repairs", "weighted repairs", "repairs by mentor", "weighted repairs by mentor"].iter().zip(REPAIRS)
     {
+        let [beside, leaving] = tally.written_beside(call);
         println!("{words} that move students and leave others {}", tally.mixed(call));
+        println!("stable matchings beside {words} {beside}");
+        println!("stable matchings beside {words} that move students whom these leave {leaving}");
     }
 }
 

@@ -106,8 +106,9 @@ impl Both {
     }
 
     /// Asks for the repair of a man's pair, which moves as few students as any, and of him with the woman after his
-    /// own.
+    /// own; and whom both repairs of the pair move.
     fn ask_pair(&mut self, book: &Asked, stable: &Matching, matching: &[u8], man: Man, woman: Woman) {
+        self.ask_between(book, stable, man);
         let due = self.repair(book, matching, &[man.0, woman.0], ROOM, ROOM);
         self.tally.letters[letter_place(due.letter)] += 1;
         let ones = book.ones();

@@ -1,5 +1,6 @@
 //! Counts of what was compared, the rules that were met, and the report of differences.
 
+use crate::between::Beside;
 use crate::calls::{prints, refused_by, shows, Call, COUNT, REPAIRS, RULES};
 use archive::printed::{Kind, Printed, KINDS};
 use archive::Reply;
@@ -52,6 +53,11 @@ pub struct Tally {
     shown: [[usize; KINDS.len()]; COUNT],
     /// For each call how many repairs moved students who weigh more than 0 and left others who do.
     mixed: [usize; COUNT],
+    /// Stable matchings beside repairs up, and beside repairs down, by the definitions.
+    pub beside: [Beside; 2],
+    /// For each call how many stable matchings stood beside what the archive wrote, and how many of these moved students
+    /// whom it left.
+    written_beside: [[usize; 2]; COUNT],
     pub differences: usize,
 }
 
@@ -95,6 +101,19 @@ impl Tally {
         self.mixed[call as usize]
     }
 
+    /// Counts a stable matching beside what the archive wrote by how many students it moves and that leaves.
+    pub fn count_beside(&mut self, call: Call, left: usize) {
+        let [all, leaving] = &mut self.written_beside[call as usize];
+        *all += 1;
+        *leaving += (left > 0) as usize;
+    }
+
+    /// How many stable matchings stood beside what a call of the archive wrote, and how many of these moved students
+    /// whom it left.
+    pub fn written_beside(&self, call: Call) -> [usize; 2] {
+        self.written_beside[call as usize]
+    }
+
     /// How many calls were made.
     pub fn calls(&self) -> usize {
         self.met.iter().flatten().sum()
@@ -124,12 +143,15 @@ impl Tally {
         for (mixed, more) in self.mixed.iter_mut().zip(other.mixed) {
             *mixed += more;
         }
+        for (beside, more) in self.written_beside.iter_mut().flatten().zip(other.written_beside.iter().flatten()) {
+            *beside += more;
+        }
         self.differences += other.differences;
     }
 
     /// For books of an edition: the calls that never gave a result or were never refused by a rule that they have,
     /// the refusals and the kinds of sheets that they never printed, and the calls for a repair that never moved
-    /// students and left others.
+    /// students and left others, or never left one whom a stable matching on its side moves.
     pub fn missing(&self, edition: Edition) -> Vec<String> {
         let unmet = refused_by(edition).filter(|&(call, rule)| self.met[call as usize][rule] == 0);
         let unprinted = prints(edition).filter(|&(call, rule)| self.printed[call as usize][rule] == 0);
@@ -139,7 +161,9 @@ impl Tally {
         let unprinted = unprinted.map(|(call, rule)| format!("{call:?} that prints the refusal by rule {rule}"));
         let unshown = unshown.map(|(call, kind)| format!("{call:?} with {}", kind.words()));
         let unmixed = unmixed.map(|call| format!("{call:?} that moves students and leaves others"));
-        unmet.chain(unprinted).chain(unshown).chain(unmixed).collect()
+        let moving = REPAIRS.into_iter().filter(|&call| self.written_beside(call)[1] == 0);
+        let moving = moving.map(|call| format!("{call:?} that leaves a student whom a stable matching moves"));
+        unmet.chain(unprinted).chain(unshown).chain(unmixed).chain(moving).collect()
     }
 
     /// Counts a difference and prints it if it is one of the first; ends the program when there are many.
@@ -160,10 +184,10 @@ mod tests {
     use super::*;
 
     /// A tally in which every call has met each of its rules, every refusal and every kind of sheet was printed, and
-    /// repairs have moved students and left others.
+    /// repairs have moved students and left others, also such as another stable matching moves.
     fn complete() -> Tally {
         let (met, printed, shown) = ([[1; RULES]; COUNT], [[1; RULES]; COUNT], [[1; KINDS.len()]; COUNT]);
-        Tally { met, printed, shown, mixed: [1; COUNT], ..Tally::default() }
+        Tally { met, printed, shown, mixed: [1; COUNT], written_beside: [[1; 2]; COUNT], ..Tally::default() }
     }
 
     /// What was never met is missed, and nothing else.
@@ -177,6 +201,9 @@ mod tests {
         assert_eq!(tally.missing(Edition::One)[1..], ["WeightedSheet that prints the refusal by rule 17"]);
         tally.mixed[Call::WeightedRepair as usize] = 0;
         assert_eq!(tally.missing(Edition::Two)[2..], ["WeightedRepair that moves students and leaves others"]);
+        tally.written_beside[Call::RepairMentor as usize][1] = 0;
+        let last = "RepairMentor that leaves a student whom a stable matching moves";
+        assert_eq!(tally.missing(Edition::One)[3..], [last]);
         for kind in KINDS {
             let mut tally = complete();
             tally.shown.iter_mut().for_each(|kinds| kinds[kind as usize] = 0);

@@ -1,6 +1,6 @@
 //! Repairs, fixed pairs and the grade in the words of document 01, over the list of all stable matchings. Each man has
 //! a weight (W-201); document 01 itself counts men, so there each weighs 1. A man who is alone is no pair (W-203).
-//! Where no pair can be repaired there is no grade (W-204).
+//! Where no pair can be repaired there is no grade (W-204). Nobody is moved in vain (W-206).
 
 use super::{weight_moved, Market, Matching};
 
@@ -33,16 +33,40 @@ impl Market {
         stable.iter().filter(|m| m[man] != given[man] && all_fit(m)).cloned().collect()
     }
 
-    /// The one that moves the smaller total weight, at equal totals up. That none exists when the pair is fixed, and
-    /// that no stable matching without the pair moves less (demand 3), is tested on the way.
+    /// The one that moves the smaller total weight, at equal totals up. That none exists when the pair is fixed, that
+    /// no stable matching without the pair moves less (demand 3), and that both repairs lie between (W-206), is tested
+    /// on the way.
     pub fn answer(&self, stable: &[Matching], given: &Matching, weights: &[u8], man: usize) -> Answer {
         let moved = |m: &Matching| weight_moved(m, given, weights);
-        let up = self.repair_up(stable, given, man).map(|m| (b'U', m));
-        let down = self.repair_down(stable, given, man).map(|m| (b'D', m));
+        let [up, down] = [self.repair_up(stable, given, man), self.repair_down(stable, given, man)];
+        self.test_between(stable, given, man, up.as_ref(), |new, old| new < old);
+        self.test_between(stable, given, man, down.as_ref(), |new, old| new > old);
+        let (up, down) = (up.map(|m| (b'U', m)), down.map(|m| (b'D', m)));
         let answer = [up, down].into_iter().flatten().min_by_key(|(_, m)| moved(m));
         let least = stable.iter().filter(|m| m[man] != given[man]).map(moved).min();
         assert_eq!(answer.as_ref().map(|(_, m)| moved(m)), least);
         answer
+    }
+
+    /// W-206: there is a repair where some stable matching gives the asking man a place, new and old, that is off; and
+    /// each man's woman in it stands on his list between the given one and the one in any such matching, ends counted.
+    fn test_between(
+        &self,
+        stable: &[Matching],
+        given: &Matching,
+        man: usize,
+        repaired: Option<&Matching>,
+        off: fn(usize, usize) -> bool,
+    ) {
+        let others = stable.iter().filter(|m| off(self.place(man, m[man]), self.place(man, given[man])));
+        for other in others {
+            let repaired = repaired.expect("a repair on this side");
+            for i in 0..self.n {
+                let [old, new, far] = [given, repaired, other].map(|m| self.place(i, m[i]));
+                assert!(old.min(far) <= new && new <= old.max(far), "man {i} in {repaired:?} beside {other:?}");
+                assert_eq!(repaired[i].is_some(), given[i].is_some());
+            }
+        }
     }
 
     /// The men whose pairs every stable matching holds, or where `fixed` is false, whose pairs some matching does not.
