@@ -122,6 +122,10 @@ struct placement_reply placement_mentor_best(const uint8_t *book, size_t book_le
  * 'F' the pair is fixed; value: the distance (0 for 'F'). 'U' and 'D' write n bytes of the repaired matching to out
  * and n signed bytes to gains: old place less new, above zero is better, 0 for a student without a mentor, and the
  * distance is the number of those that are not 0. 'F' writes neither. Both buffers must hold n entries in every case.
+ * No stable matching without the pair moves fewer students. Nobody is moved in vain: for every stable matching in which
+ * the student of the pair is better off ('U'), or worse off ('D'), the mentor that out gives to any student stands on
+ * his list between the given one and the one in that matching, ends counted, so that whoever is moved here is moved
+ * there. A student without a mentor stays without.
  * Refused: the book, then 8, 9, 19, 10, then 13, 11, 12, then 14. A request for a student without a mentor gets 12,
  * one with the mentor byte PLACEMENT_NOBODY 11. */
 struct placement_reply placement_repair(const uint8_t *book, size_t book_len, const uint8_t *matching, size_t matching_len,
@@ -174,7 +178,7 @@ struct placement_reply placement_sheet(const uint8_t *input, size_t input_len, u
 /* The repair of one pair where each student has a weight: as placement_repair, with the total weight of the students
  * moved in place of their number. The repair of the smaller total is given, up when equal, and value is that total, the
  * weight of the students whose gain is not 0. A pair that can be repaired is 'U' or 'D' even where the total is 0.
- * Weights of 1 give the answers of placement_repair.
+ * Weights of 1 give the answers of placement_repair. Nobody is moved in vain here either, even one who weighs 0.
  * Refused: the book, then 8, 9, 19, 10, then 17, then 13, 11, 12, then 14. */
 struct placement_reply placement_weighted_repair(const uint8_t *book, size_t book_len, const uint8_t *matching, size_t matching_len,
                                                  const uint8_t *weights, size_t weights_len, const uint8_t *request,

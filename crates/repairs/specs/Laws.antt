@@ -1,5 +1,5 @@
--- What the demands cite: the theory's repairs and its grade as bytes, that there is one repair, and the replies to
--- mentors. Assumes nothing.
+-- What the demands cite: the theory's repairs and its grade as bytes, that there is one repair, that it lies between
+-- the given matching and others, and the replies to mentors. Assumes nothing.
 pub mod Bytes
 pub mod RepairBytes
 pub mod AnswerBytes

@@ -1,4 +1,5 @@
--- Repairs and the grade in the words of document 01, and demands 1 and 3 of them. Laws proves them. Assumes nothing.
+-- Repairs and the grade in the words of documents 01 and 02, demands 1 and 3 of them, and what W-205 and W-206 promise.
+-- Laws proves them. Assumes nothing.
 pub mod Weights
 pub mod Request
 pub mod Repair
