@@ -16,10 +16,10 @@ impl Both {
             return;
         };
         let (book, given, mentor) = (inputs[0], inputs[1], inputs[inputs.len() - 1].last());
-        let Some(student) = given.iter().position(|other| Some(other) == mentor) else {
+        let student = given.iter().position(|other| Some(other) == mentor);
+        let (Some(student), Some(repaired)) = (student, out.buffer().get(..given.len())) else {
             return;
         };
-        let repaired = &out.buffer()[..given.len()];
         for other in self.beside.iter().filter(|other| side(book, given, other, student) == Some(letter)) {
             self.tally.count_beside(letter, left(given, repaired, other));
             if let Some(at) = outside(book, given, repaired, other) {

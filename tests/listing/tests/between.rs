@@ -11,7 +11,7 @@ use listing::people::Man;
 use listing::stable::Listing;
 
 /// Two groups, and somebody alone on each side: students 0 and 1 can exchange mentors 0 and 1, students 2 and 3 mentors
-/// 2 and 3. Student 4 and mentor 4 stand last on the lists of student 2 and mentor 0.
+/// 2 and 3. Student 4 stands last on the list of mentor 0, and mentor 4 on that of student 2.
 const TWO_GROUPS: &str = "01 10 234 32 0 104 01 32 23 2";
 
 /// How many stable matchings part each student's pair of a matching on a side.
@@ -30,8 +30,8 @@ fn sides_of_matching_5() {
     assert_eq!(partings(listing, &given, Side::Down), [3, 3, 6, 3, 3, 0, 6]);
 }
 
-/// Both repairs of each pair of M5 lie between it and whatever parts the pair on their side; there is none where nothing
-/// does, as in Table 3.
+/// Both repairs of each pair of M5 lie between it and whatever parts the pair on their side; there is none where
+/// nothing does, as in Table 3.
 #[test]
 fn repairs_of_matching_5() {
     let asked = Asked::new(table_1());
@@ -50,8 +50,8 @@ fn repairs_of_matching_5() {
 }
 
 /// The repair up of student 0's pair is 2 5 6 3 1 4 0 (Table 3). Beside 2 5 0 3 1 4 6, in which students 2 and 6 are
-/// worse off, it leaves these two. The student-best matching, which moves students 1 and 6 in vain, does not lie between,
-/// nor does the repair down.
+/// worse off, it leaves these two. The student-best matching does not lie between: it moves students 1 and 6 in vain and
+/// students 0 and 5 too far. Nor does the repair down, which moves students 0 and 4 the other way.
 #[test]
 fn who_stands_outside() {
     let asked = Asked::new(table_1());

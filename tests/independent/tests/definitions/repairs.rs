@@ -48,8 +48,9 @@ impl Market {
         answer
     }
 
-    /// W-206: there is a repair where some stable matching gives the asking man a place, new and old, that is off; and
-    /// each man's woman in it stands on his list between the given one and the one in any such matching, ends counted.
+    /// W-206: where some stable matching has the asking man better off, or worse off, as `off` says of his new and his
+    /// old place, there is a repair, and each man's woman in it stands on his list between the given one and the one in
+    /// that matching, ends counted. Who is alone stays so.
     fn test_between(
         &self,
         stable: &[Matching],
