@@ -23,6 +23,7 @@ pub record RepairAt (R : ℕ → ℕ → Type 0) (I : Market) (p : ℕ → ℕ) 
   pub toward : (i : ℕ) → i < I .proposers .size → R (v i) (p i)
   pub last : {k : ℕ → ℕ} → Parts I p s k → ((i : ℕ) → i < I .proposers .size → R (k i) (p i)) → (i : ℕ) → i < I .proposers .size → R (k i) (v i)
 
+-- so each is the other
 module _ {I : Market} {p : ℕ → ℕ} {s : ℕ} {v : ℕ → ℕ} where
   pub up-at : IsUp I p s v → RepairAt NoWorse I p s v
   up-at K = record { parts = K .parts; toward = K .before; last = λ L le. K .last L le }
