@@ -133,7 +133,7 @@ static void student_0(void)
 }
 
 /* n = 64. In matching t each student has the mentor of level t on his list; all of these are stable. Beside the repair
- * of each pair of matching `given` there are `beside` of them, and each moves `left` students whom the repair leaves. */
+ * of each pair of matching `given` there are `beside` of them; each moves `left` students whom the repair leaves. */
 static void sixty_four(struct book book, int is_xor, size_t levels, size_t given, size_t beside, size_t left)
 {
     static uint8_t matchings[64][64], weights[64];

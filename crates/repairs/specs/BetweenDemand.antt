@@ -18,7 +18,8 @@ use Rattle.repairs.specs.Promise.{PairIn, pairOf, written, Without, Take
 use Rattle.repairs.specs.Between.{Side, PartsOn, RepairOn, answerOn, EachBetween, MovesToo}
 use Rattle.repairs.specs.Laws.Request.{request-fine, weighted-fine}
 use Rattle.repairs.specs.Laws.Demand3.{inside}
-use Rattle.repairs.specs.Laws.BetweenBytes.{without-side, repair-exists, repair-between, repair-moves, moves-weight, taken-on, written-on}
+use Rattle.repairs.specs.Laws.BetweenBytes.{without-side, repair-exists, repair-between, repair-moves, moves-weight}
+use Rattle.repairs.specs.Laws.BetweenBytes.{taken-on, written-on}
 
 -- A book that is well formed with a matching that is stable in it, a pair of it, and a matching k
 module _ (b m : List ℕ) (s : ℕ) (stable : checkMatching b m ≡ fine) (pair : PairIn b m s) (k : List ℕ) where
@@ -63,23 +64,31 @@ module _ (b m : List ℕ) (s : ℕ) (out : List ℕ) (gains : List ℤ)
     (stable : checkMatching b m ≡ fine) (pair : PairIn b m s) (room : people b ≤ length out) (gains-room : people b ≤ length gains)
     (side : Side) (d : ℕ) where
   module _ (answer : repairReply b m (pairOf m s) out gains ≡ gives (answerOn side d)) where
-    pub written-repair : RepairOn side b m s (written b (repairMatching b m (pairOf m s) out gains))
+    -- the matching that is written
+    abbrev repaired : List ℕ
+    repaired = written b (repairMatching b m (pairOf m s) out gains)
+
+    pub written-repair : RepairOn side b m s repaired
     written-repair = written-on b (λ i. 1) m s stable pair (request-fine b m s stable pair room gains-room) out side d answer
 
-    pub written-between : (k : List ℕ) → PartsOn side b m s k → EachBetween b m (written b (repairMatching b m (pairOf m s) out gains)) k
-    written-between k parted = stands-between b m s stable pair k side parted _ written-repair
+    pub written-between : (k : List ℕ) → PartsOn side b m s k → EachBetween b m repaired k
+    written-between k parted = stands-between b m s stable pair k side parted repaired written-repair
 
-    pub written-moves : (k : List ℕ) → PartsOn side b m s k → MovesToo b m (written b (repairMatching b m (pairOf m s) out gains)) k
-    written-moves k parted = moves-too b m s stable pair k side parted _ written-repair
+    pub written-moves : (k : List ℕ) → PartsOn side b m s k → MovesToo b m repaired k
+    written-moves k parted = moves-too b m s stable pair k side parted repaired written-repair
 
-  -- and with a byte for each student as weights w
-  module _ (w : List ℕ) (all : length w ≡ people b) (answer : weightedReply b m w (pairOf m s) out gains ≡ gives (answerOn side d)) where
-    pub weighted-repair : RepairOn side b m s (written b (weightedMatching b m w (pairOf m s) out gains))
+  -- and of those that it writes with a byte for each student as weights w
+  module _ (w : List ℕ) (all : length w ≡ people b)
+      (answer : weightedReply b m w (pairOf m s) out gains ≡ gives (answerOn side d)) where
+    abbrev repairedByWeight : List ℕ
+    repairedByWeight = written b (weightedMatching b m w (pairOf m s) out gains)
+
+    pub weighted-repair : RepairOn side b m s repairedByWeight
     weighted-repair =
         written-on b (weightOf w) m s stable pair (weighted-fine b m w s stable all pair room gains-room) out side d answer
 
-    pub weighted-between : (k : List ℕ) → PartsOn side b m s k → EachBetween b m (written b (weightedMatching b m w (pairOf m s) out gains)) k
-    weighted-between k parted = stands-between b m s stable pair k side parted _ weighted-repair
+    pub weighted-between : (k : List ℕ) → PartsOn side b m s k → EachBetween b m repairedByWeight k
+    weighted-between k parted = stands-between b m s stable pair k side parted repairedByWeight weighted-repair
 
-    pub weighted-moves : (k : List ℕ) → PartsOn side b m s k → MovesToo b m (written b (weightedMatching b m w (pairOf m s) out gains)) k
-    weighted-moves k parted = moves-too b m s stable pair k side parted _ weighted-repair
+    pub weighted-moves : (k : List ℕ) → PartsOn side b m s k → MovesToo b m repairedByWeight k
+    weighted-moves k parted = moves-too b m s stable pair k side parted repairedByWeight weighted-repair

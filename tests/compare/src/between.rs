@@ -2,11 +2,13 @@
 //! part the pair on the same side.
 
 use crate::both::{Both, Lent};
+use crate::sound::Sound;
 use archive::between::{left, outside, side};
+use independent::random::Random;
 use independent::reply::Reply;
 
 /// How many stable matchings are looked at beside each repair.
-pub const BESIDE: usize = 6;
+const BESIDE: usize = 6;
 
 impl Both {
     /// What the archive has written for a call for a repair, whose inputs are a book, a matching and at the end a
@@ -29,5 +31,14 @@ impl Both {
                 self.tally.differ(&call, &inputs, format!("{repaired:?}, student {at}"), due.to_string());
             }
         }
+    }
+}
+
+impl Sound {
+    /// Stable matchings to be looked at beside repairs: the two extreme ones, and some of those that are asked.
+    pub fn beside(&self, matchings: &[Vec<u8>], random: &mut Random) -> Vec<Vec<u8>> {
+        let extreme = [0, 1].map(|mark| self.poset.matching(&vec![mark; self.poset.count()])[..self.n].to_vec());
+        let some = (0..BESIDE - 2).map(|_| matchings[random.below(matchings.len())].clone());
+        extreme.into_iter().chain(some).collect()
     }
 }

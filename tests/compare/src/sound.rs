@@ -1,6 +1,5 @@
 //! Questions to a well-formed book: good ones, and ones that break each rule after the book's.
 
-use crate::between::BESIDE;
 use crate::both::Both;
 use crate::by_mentor;
 use crate::weights;
@@ -145,13 +144,6 @@ impl Sound {
         let first = random.below(sets.len());
         sets.swap(0, first);
         sets.iter().map(|set| self.poset.matching(set)[..self.n].to_vec()).collect()
-    }
-
-    /// Stable matchings to be looked at beside repairs: the two extreme ones, and some of those that are asked.
-    fn beside(&self, matchings: &[Vec<u8>], random: &mut Random) -> Vec<Vec<u8>> {
-        let extreme = [0, 1].map(|mark| self.poset.matching(&vec![mark; self.poset.count()])[..self.n].to_vec());
-        let some = (0..BESIDE - 2).map(|_| matchings[random.below(matchings.len())].clone());
-        extreme.into_iter().chain(some).collect()
     }
 
     /// A stable matching: its set, its grade, its sheet and the repairs of all its pairs, plain and weighted, also by

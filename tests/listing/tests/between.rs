@@ -50,8 +50,8 @@ fn repairs_of_matching_5() {
 }
 
 /// The repair up of student 0's pair is 2 5 6 3 1 4 0 (Table 3). Beside 2 5 0 3 1 4 6, in which students 2 and 6 are
-/// worse off, it leaves these two. The student-best matching does not lie between: it moves students 1 and 6 in vain and
-/// students 0 and 5 too far. Nor does the repair down, which moves students 0 and 4 the other way.
+/// worse off, it leaves these two. The student-best matching does not lie between: it moves students 1 and 6 in vain
+/// and students 0 and 5 too far. Nor does the repair down, which moves student 0 the other way and student 4 in vain.
 #[test]
 fn who_stands_outside() {
     let asked = Asked::new(table_1());

@@ -51,19 +51,20 @@ impl Both {
         }
     }
 
-    /// What the archive wrote for a mentor's pair, where its reply and the one that is due have the letter U, or D,
-    /// beside every stable matching that parts the pair on that side. Gives back the reply that is due.
+    /// What the archive wrote for a pair, where its reply and the one that is due have the letter U, or D, beside every
+    /// stable matching that parts the pair on that side. Gives back the reply that is due. The mentor of the pair is the
+    /// last byte of `asked`, which is a request or her number.
     pub fn compare_between(
         &mut self,
         call: Call,
         book: &Asked,
         matching: &[u8],
-        mentor: u8,
+        asked: &[u8],
         both: [(Reply, Lent<u8>); 2],
     ) -> Reply {
         let [(given, mut out), (due, _)] = both;
         if given.letter == due.letter && [b'U', b'D'].map(usize::from).contains(&due.letter) {
-            let student = matching.iter().position(|&other| other == mentor).expect("she has a student");
+            let student = matching.iter().position(|mentor| asked.last() == Some(mentor)).expect("a pair");
             let repaired = &out.buffer()[..matching.len()];
             self.compare_beside(call, book, (matching, student), char::from(due.letter as u8), repaired);
         }

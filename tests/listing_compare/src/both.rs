@@ -26,11 +26,6 @@ fn grade_in_c(grade: Result<Option<usize>, Refusal>) -> listing::reply::Reply {
     granted(grade?.unwrap_or(NO_GRADE))
 }
 
-/// The mentor of a request: its last byte.
-fn mentor_of(request: &[u8]) -> u8 {
-    request.last().copied().unwrap_or(0)
-}
-
 /// Both sides, with the tally of what was compared.
 #[derive(Default)]
 pub struct Both {
@@ -175,7 +170,7 @@ impl Both {
         let listing = |out: &mut [u8], gains: &mut [i8]| book.repair(matching, request, out, gains);
         let rooms = (room, gains_room);
         let both = self.lending_both(Call::Repair, &inputs, &vec![1; matching.len()], rooms, archive, listing);
-        self.compare_between(Call::Repair, book, matching, mentor_of(request), both)
+        self.compare_between(Call::Repair, book, matching, request, both)
     }
 
     /// The grade of a matching.
@@ -233,7 +228,7 @@ impl Both {
         let listing = |out: &mut [u8], gains: &mut [i8]| book.weighted_repair(matching, weights, request, out, gains);
         let inputs = [book.book(), matching, weights, request];
         let both = self.lending_both(Call::WeightedRepair, &inputs, weights, rooms, archive, listing);
-        self.compare_between(Call::WeightedRepair, book, matching, mentor_of(request), both)
+        self.compare_between(Call::WeightedRepair, book, matching, request, both)
     }
 
     /// The weighted grade of a matching: the reply that is due.

@@ -19,7 +19,7 @@ impl Both {
         let listing = |out: &mut [u8], gains: &mut [i8]| book.repair_mentor(matching, mentor, out, gains);
         let inputs = [book.book(), matching, &[mentor]];
         let both = self.lending_both(Call::RepairMentor, &inputs, &vec![1; matching.len()], rooms, archive, listing);
-        self.compare_between(Call::RepairMentor, book, matching, mentor, both)
+        self.compare_between(Call::RepairMentor, book, matching, &[mentor], both)
     }
 
     /// The weighted repair of a mentor's pair, with result buffers of these lengths.
@@ -38,7 +38,7 @@ impl Both {
             |out: &mut [u8], gains: &mut [i8]| book.weighted_repair_mentor(matching, weights, mentor, out, gains);
         let inputs = [book.book(), matching, weights, &[mentor]];
         let both = self.lending_both(Call::WeightedRepairMentor, &inputs, weights, rooms, archive, listing);
-        self.compare_between(Call::WeightedRepairMentor, book, matching, mentor, both)
+        self.compare_between(Call::WeightedRepairMentor, book, matching, &[mentor], both)
     }
 
     /// Asks a stable matching by the number of each mentor, by n and by 255.

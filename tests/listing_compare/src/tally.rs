@@ -55,8 +55,8 @@ pub struct Tally {
     mixed: [usize; COUNT],
     /// Stable matchings beside repairs up, and beside repairs down, by the definitions.
     pub beside: [Beside; 2],
-    /// For each call how many stable matchings stood beside what the archive wrote, and how many of these moved students
-    /// whom it left.
+    /// For each call how many stable matchings stood beside what the archive wrote, and how many of these moved
+    /// students whom it left.
     written_beside: [[usize; 2]; COUNT],
     pub differences: usize,
 }

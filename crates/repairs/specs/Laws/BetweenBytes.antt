@@ -27,7 +27,8 @@ use Rattle.repairs.specs.Laws.Bytes.{same-woman}
 use Rattle.repairs.specs.Laws.RepairBytes.{holds, without-parts, repair-bytes, repair-vector, up-at, at-up, down-at, at-down}
 use Rattle.repairs.specs.Laws.Demand3.{fixed-iff, takes}
 use Rattle.repairs.specs.Promise.{PairIn, pairOf, written, Without, Takes, takes-up, takes-down}
-use Rattle.repairs.specs.Between.{Side, upward, downward, EndsOn, PartsOn, RepairOn, answerOn, Between, rising, falling, EachBetween, MovesToo}
+use Rattle.repairs.specs.Between.{Side, upward, downward, EndsOn, PartsOn, RepairOn, answerOn}
+use Rattle.repairs.specs.Between.{Between, rising, falling, EachBetween, MovesToo}
 
 -- a better place is another, and so is a worse one
 ends-apart : (side : Side) {new old : ℕ} → EndsOn side new old → new ≡ old → ⊥
@@ -72,7 +73,8 @@ module _ {b m r k : List ℕ} (S : StableIn b m) (R : StableIn b r) (K : Matchin
       by (unplaced p q) = ne (B .alone i u q ∙ sym q)
 
 -- who moves no more weighs no more: the theory's law, of mentors in place of places
-pub moves-weight : (b : List ℕ) (c : ℕ → ℕ) (m r k : List ℕ) → MovesToo b m r k → movedWeight (people b) c m r ≤ movedWeight (people b) c m k
+pub moves-weight :
+    (b : List ℕ) (c : ℕ → ℕ) (m r k : List ℕ) → MovesToo b m r k → movedWeight (people b) c m r ≤ movedWeight (people b) c m k
 unfolding market weight moved
 moves-weight b c m r k f = weight-le (market b) c (womanOf m) (womanOf r) (womanOf k) f
 
@@ -92,11 +94,14 @@ module _ {b m : List ℕ} (S : StableIn b m) {s : ℕ} (P : PairIn b m s) (side 
   ends-vector = rw (place-rank (other .matching) (P .student), place-rank (S .matching) (P .student)) (K .ends)
 
 -- a stable matching without the pair parts it on one side
-pub without-side : {b m : List ℕ} → StableIn b m → {s : ℕ} → PairIn b m s → {k : List ℕ} → Without b m s k → (side : Side) × PartsOn side b m s k
+pub without-side :
+    {b m : List ℕ} → StableIn b m → {s : ℕ} → PairIn b m s → {k : List ℕ} → Without b m s k → (side : Side) × PartsOn side b m s k
 without-side {b} {m} S {s} P {k} K =
     let B = fine-stable b k .0 (K .stable) .matching in
+    let there = place-rank B (P .student) in
+    let here = place-rank (S .matching) (P .student) in
     let apart : manRank b s (womanOf k s) ≡ manRank b s (womanOf m s) → ⊥ =
-    λ e. K .without (same-woman (S .matching) B (P .student) .1 (place-rank B (P .student) ∙ e ∙ sym (place-rank (S .matching) (P .student)))) in
+    λ e. K .without (same-woman (S .matching) B (P .student) .1 (there ∙ e ∙ sym here)) in
     split (manRank b s (womanOf m s)) (manRank b s (womanOf k s))
     (λ l. (downward, record { stable = K .stable; ends = omega (arith, apart) }))
     (λ l. (upward, record { stable = K .stable; ends = l }))
