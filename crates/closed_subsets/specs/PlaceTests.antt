@@ -10,11 +10,6 @@ pub record AgreeIs {A : Type 0} (n : ℕ) (s t : ℕ → A) (answer : Bool) : Ty
   pub yes : answer ≡ true → (k : ℕ) → k < n → s k ≡ t k
   pub no : answer ≡ false → ((k : ℕ) → k < n → s k ≡ t k) → ⊥
 
--- Whether a vector is stable
-pub record StableIs (I : Market) (p : ℕ → ℕ) (answer : Bool) : Type 0 where
-  pub yes : answer ≡ true → Stable I p
-  pub no : answer ≡ false → Stable I p → ⊥
-
 -- Whether a vector is stable and two tests agree at every number below n
 pub record ClosesIs (I : Market) (p : ℕ → ℕ) (n : ℕ) (s t : ℕ → Bool) (answer : Bool) : Type 0 where
   pub stable : answer ≡ true → Stable I p

@@ -1,14 +1,12 @@
 // Closed sets: the marks of a set, the places of its matching, and whether these are stable and past its rotations and
 // no others, which is whether it is closed.
-use extremes::write_matching;
-use format::Checked;
 use format::Instance;
 use matchings::Places;
 use precedence::next_start;
 use precedence::past;
 use rotation_elimination::eliminate;
 use rows::mark_in;
-use stability::judge;
+use stable_places::is_stable;
 ghost use mathlib.Core.Path.{_≡_};
 ghost use mathlib.Core.Bool.{not};
 ghost use Prim.Native.Nat.{ℕ, _*_, _≤_};
@@ -28,7 +26,7 @@ ghost use Rattle.rotation_elimination.specs.Written.{rotationIn};
 ghost use Rattle.precedence.specs.ListRead.{pastNumber, Readable};
 ghost use Rattle.rotation_elimination.specs.Elimination.{Eliminable};
 ghost use Rattle.closed_subsets.specs.SetPlaces.{EliminatedIf, SetReady, SetEliminated, SetPlaces};
-ghost use Rattle.closed_subsets.specs.PlaceTests.{AgreeIs, StableIs, ClosesIs};
+ghost use Rattle.closed_subsets.specs.PlaceTests.{AgreeIs, ClosesIs};
 
 // Whether a set has not one mark a rotation, or a mark is over 1.
 pub fn bad_marks(set: &[u8], count: usize) -> bool
@@ -111,42 +109,6 @@ fn has_set(n: usize, ranks: &[u16], list: &[u16], set: &[u8], places: &[u16]) ->
         at = next_start(list, at);
         k += 1;
     }
-    true
-}
-
-// Whether places on the men's lists or at their ends are stable: whether the check finds nothing against the matching
-// of the women there.
-fn is_stable(
-    n: usize,
-    partial: bool,
-    mlists: &[u16],
-    mranks: &[u16],
-    wlists: &[u16],
-    wranks: &[u16],
-    men: [u16; Instance::LARGEST],
-) -> bool
-    ghost { Record }
-    requires { λ R. ⌜ lent n mlists mranks wlists wranks ≡ R ⌝ }
-    requires { λ R. ⌜ FromFine partial R ⌝ }
-    requires { λ _. ⌜ OnLists n (now mlists) men ⌝ }
-    ensures { λ R r. ⌜ StableIs (marketIn R) (vec men) r ⌝ }
-{
-    let mut matching = [0u8; Instance::LARGEST];
-    write_matching(n, mlists, &men, &mut matching[..]);
-    let judged = judge(
-        Checked::Fine,
-        n,
-        partial,
-        mlists,
-        mranks,
-        wlists,
-        wranks,
-        &matching[..n],
-    );
-    let checked = judged.checked;
-    let Checked::Fine = checked else {
-        return false;
-    };
     true
 }
 

@@ -22,6 +22,11 @@ abbrev pub countOutcome : Counted → Outcome ℕ
 countOutcome (Count k) = gives k
 countOutcome (Refused r) = refusal (r .number) (r .place) (r .second)
 
+-- The answer with its value as a case of another type
+abbrev pub told : {A B : Type 0} → (A → B) → Outcome A → Outcome B
+told case (gives value) = gives (case value)
+told case (refusal number place second) = refusal number place second
+
 -- An answer after a check that is made before the call's own: that answer, where nothing is refused
 abbrev pub orRefused : {A : Type 0} → Verdict → Outcome A → Outcome A
 orRefused fine answer = answer

@@ -1,12 +1,8 @@
 -- What is made of the nearest repair: the answer, and what the result buffers hold. Assumes nothing.
 use Prim.Native.Nat.{ℕ, _≤_, _<_}
-use mathlib.Core.Bool.{not}
 use mathlib.Core.List.{List}
-use lib.Dec.{eqb}
 use lib.ListN.{length}
 use lib.IntN.{ℤ}
-use Rattle.laws.specs.Choice.{pick}
-use Rattle.laws.specs.Sum.{sum}
 use Rattle.laws.specs.Difference.{less}
 use Rattle.laws.specs.Values.{vec, values}
 use Rattle.format.specs.Verdict.{fine}
@@ -27,11 +23,6 @@ abbrev pub shownIn : {A : Type 0} → Letter → ℕ → List A → List A → L
 shownIn Up n result out = filled fine n result out
 shownIn Down n result out = filled fine n result out
 shownIn Fixed n result out = out
-
--- The total weight of those of n men who are moved from p to q, c i being the weight of man i; where each weighs 1,
--- how many they are
-abbrev pub movedAt : ℕ → (ℕ → ℕ) → (ℕ → ℕ) → (ℕ → ℕ) → ℕ
-movedAt n c p q = sum n (λ i. pick (not (eqb (q i) (p i))) (c i) 0)
 
 -- The places that each of n men gains from p to q
 abbrev pub gainsAt : ℕ → (ℕ → ℕ) → (ℕ → ℕ) → List ℤ

@@ -1,16 +1,15 @@
 // The pass over two matchings: how many men are moved, what they weigh, and the places that each man gains.
+use nearest::moved_weight;
 ghost use mathlib.Core.Path.{_≡_};
 ghost use mathlib.Core.List.{_++_};
-ghost use mathlib.Core.Bool.{not};
 ghost use Prim.Native.Nat.{_≤_, _<_};
-ghost use lib.Dec.{eqb};
 ghost use lib.ListN.{length, drop};
-ghost use Rattle.laws.specs.Choice.{pick};
 ghost use Rattle.laws.specs.Difference.{less};
 ghost use Rattle.laws.specs.Moment.{now₀, now₁, vec₀};
 ghost use Rattle.format.specs.Format.{largest};
 ghost use Rattle.pushing.specs.Push.{Weighed};
-ghost use Rattle.repair_answer.specs.Shown.{Small, movedAt, gainsAt};
+ghost use Rattle.nearest.specs.Moved.{movedAt};
+ghost use Rattle.repair_answer.specs.Shown.{Small, gainsAt};
 
 // The men who are moved: how many they are, and what they weigh in total.
 pub struct Moved {
@@ -24,13 +23,6 @@ fn gain(old: u16, new: u16) -> i8
     ensures { λ r. ⌜ r ≡ less old new ⌝ }
 {
     (old as i8) - (new as i8)
-}
-
-// What one man adds to a total: his weight where he is moved, and otherwise 0.
-fn moved_weight(old: u16, new: u16, weight: u32) -> u32
-    ensures { λ r. ⌜ r ≡ pick (not (eqb new old)) weight 0 ⌝ }
-{
-    if new == old { 0 } else { weight }
 }
 
 // How many of n men are moved from `old` to `new`, and what they weigh; the gains of all n go to the front of `gains`.

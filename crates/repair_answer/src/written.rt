@@ -16,7 +16,8 @@ ghost use Rattle.format.specs.Outcome.{gives};
 ghost use Rattle.extremes.specs.Places.{MatchingWritable, womenAt};
 ghost use Rattle.repairs.specs.Repair.{repairOutcome};
 ghost use Rattle.pushing.specs.Push.{Weighed};
-ghost use Rattle.repair_answer.specs.Shown.{Small, movedAt, gainsAt, shownAnswer, shownIn};
+ghost use Rattle.nearest.specs.Moved.{movedAt};
+ghost use Rattle.repair_answer.specs.Shown.{Small, gainsAt, shownAnswer, shownIn};
 
 // Writes the repair in which the men have the places `repaired`: its matching, and what each gains from `men`. Its
 // distance is the total weight of those who are moved.

@@ -1,24 +1,15 @@
 -- The words of W-206, beside those of Promise.antt: b is a book of either edition, m the given matching, s the asking
--- student, r a repair of his pair and k any stable matching. Of two places on a list the lower number is the better.
--- Assumes nothing.
+-- student, r a repair of his pair and k any stable matching. The side on which a pair is parted, as the asking student
+-- ends better or worse off, is that of the theory. Assumes nothing.
 use Prim.Native.Nat.{ℕ, _≤_, _<_}
 use mathlib.Core.Path.{_≡_}
 use mathlib.Core.List.{List}
 use Rattle.format.specs.Verdict.{fine}
 use Rattle.format.specs.Format.{people, nobody}
+use Rattle.stable_theory.specs.Repairs.Sides.{Side, upward, downward, EndsOn}
 use Rattle.matchings.specs.Matching.{manRank, manLength, checkMatching, womanOf}
 use Rattle.repairs.specs.Repair.{RepairAnswer, up, down}
 use Rattle.repairs.specs.Promise.{PairIn, RepairUp, RepairDown}
-
--- The side on which a pair is parted: the asking student ends better off, or worse off
-pub data Side : Type 0 where
-  upward : Side
-  downward : Side
-
--- So his new place is better than the old one, or worse
-abbrev pub EndsOn : Side → ℕ → ℕ → Type 0
-EndsOn upward new old = new < old
-EndsOn downward new old = old < new
 
 -- k is a stable matching that parts the pair on a side: the asking student is better off in it than in m, or worse off
 pub record PartsOn (side : Side) (b m : List ℕ) (s : ℕ) (k : List ℕ) : Type 0 where

@@ -11,11 +11,12 @@ use lib.IntN.{ℤ}
 use Rattle.format.specs.Verdict.{fine}
 use Rattle.format.specs.Outcome.{gives}
 use Rattle.format.specs.Format.{people}
+use Rattle.stable_theory.specs.Repairs.Sides.{Side}
 use Rattle.matchings.specs.Matching.{checkMatching}
 use Rattle.repairs.specs.Weights.{weightOf, movedWeight}
 use Rattle.repairs.specs.Repair.{repairReply, repairMatching, weightedReply, weightedMatching}
 use Rattle.repairs.specs.Promise.{PairIn, pairOf, written, Without, Takes}
-use Rattle.repairs.specs.Between.{Side, PartsOn, RepairOn, answerOn, EachBetween, MovesToo}
+use Rattle.repairs.specs.Between.{PartsOn, RepairOn, answerOn, EachBetween, MovesToo}
 use Rattle.repairs.specs.Laws.Request.{request-fine, weighted-fine}
 use Rattle.repairs.specs.Laws.Demand3.{inside}
 use Rattle.repairs.specs.Laws.BetweenBytes.{without-side, repair-exists, repair-between, repair-moves, moves-weight}

@@ -1,9 +1,10 @@
--- Repairs and the grade in the words of documents 01 and 02, demands 1 and 3 of them, and what W-205 and W-206 promise.
--- Laws proves them. Assumes nothing.
+-- Repairs and the grade in the words of documents 01 and 02, demands 1 and 3 of them, and what W-205, W-206 and W-207
+-- promise. Laws proves them. Assumes nothing.
 pub mod Weights
 pub mod Request
 pub mod Repair
 pub mod Mentor
+pub mod Pairs
 pub mod Grade
 pub mod Promise
 pub mod Between

@@ -25,3 +25,19 @@ pub enum Graded {
     Grade(Grade),
     Refused(Refusal),
 }
+
+// The answer for two pairs: whether the man of the first and the man of the second end better off or worse off.
+pub enum PairsAnswer {
+    UpUp(Repair),
+    UpDown(Repair),
+    DownUp(Repair),
+    DownDown(Repair),
+    Fixed,
+    Refused(Refusal),
+}
+
+// The answer to a request: for the pair that it names, or for two.
+pub enum RequestAnswer {
+    Pair(Answer),
+    Pairs(PairsAnswer),
+}

@@ -11,3 +11,10 @@ pub mod Demand3Theory
 pub mod Shared
 pub mod BothSides
 pub mod Weights
+pub mod Sides
+pub mod Pairs
+pub mod PairsDown
+pub mod PairsApart
+pub mod PairsLaws
+pub mod PairsAnswers
+pub mod PairsAlike

@@ -6,7 +6,8 @@ use native.Mathlib.Omega.{arith}
 use Rattle.laws.specs.Choice.{pick, same}
 use Rattle.laws.specs.First.{clash}
 use Rattle.stable_theory.specs.Stable.Market.{Market}
-use Rattle.closed_subsets.specs.PlaceTests.{AgreeIs, StableIs, ClosesIs}
+use Rattle.stable_places.specs.Stable.{StableIs}
+use Rattle.closed_subsets.specs.PlaceTests.{AgreeIs, ClosesIs}
 
 -- an unstable vector is answered no, and a stable one by the two tests
 pub closes-unstable : {I : Market} {p : ℕ → ℕ} {n : ℕ} {s t : ℕ → Bool} {answer : Bool} → StableIs I p answer → answer ≡ false → ClosesIs I p n s t false

@@ -39,7 +39,8 @@ use Rattle.nearest.specs.declared.answer.Nearest.{Nearest}
 use Rattle.nearest.specs.Nearest.{Placed, Shows, ShowsFor}
 use Rattle.nearest.specs.Laws.Weighed.{Allowed}
 use Rattle.nearest.specs.Laws.Book.{judged-formed, judged-number, judged-usable, judged-alike, judged-men, judged-given, judged-long-his, judged-his, judged-hers, judged-long-hers, shows-book}
-use Rattle.repair_answer.specs.Shown.{Small, movedAt, gainsAt, shownAnswer, shownIn}
+use Rattle.nearest.specs.Moved.{movedAt}
+use Rattle.repair_answer.specs.Shown.{Small, gainsAt, shownAnswer, shownIn}
 use Rattle.repair.specs.declared.asked.Asked.{Asked}
 use Rattle.repair.specs.declared.asked.Named.{Named}
 use Rattle.repair.specs.declared.asked.Named.the-variants.{Pair as Found}

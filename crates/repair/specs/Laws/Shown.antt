@@ -34,7 +34,8 @@ use Rattle.repairs.specs.Laws.Bytes.{moved-vector, vector-place}
 use Rattle.nearest.specs.declared.answer.Nearest.{Nearest}
 use Rattle.nearest.specs.Nearest.{Shows, vectorAfter}
 use Rattle.nearest.specs.Laws.Book.{judged-formed, judged-tables, judged-number, judged-alike, judged-men}
-use Rattle.repair_answer.specs.Shown.{movedAt, gainsAt, shownAnswer, shownIn}
+use Rattle.nearest.specs.Moved.{movedAt}
+use Rattle.repair_answer.specs.Shown.{gainsAt, shownAnswer, shownIn}
 
 module _ {b m : List ℕ} {R : Record} {j : Judged} (J : BookJudged b m R j) (f : checkMatching b m ≡ fine) where
   inside : MatchingIn b m

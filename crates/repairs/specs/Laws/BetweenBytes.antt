@@ -14,6 +14,7 @@ use Rattle.stable_theory.specs.Stable.Vector.{Stable}
 use Rattle.stable_theory.specs.Repairs.Repair.{Parts, moved, weight, down, up}
 use Rattle.stable_theory.specs.Repairs.RepairLaws.{down-is, up-is}
 use Rattle.stable_theory.specs.Repairs.Moves.{weight-le, down-there, up-there}
+use Rattle.stable_theory.specs.Repairs.Sides.{Side, upward, downward, EndsOn, ends-apart}
 use Rattle.stable_theory.specs.Repairs.Demand3Theory.{between-down, between-up}
 use Rattle.matchings.specs.BookMarket.{market, market-proper}
 use Rattle.matchings.specs.Matching.{manRank, vectorOf, checkMatching, placed, unplaced, EntryOf, MatchingIn, StableIn, womanOf}
@@ -27,13 +28,8 @@ use Rattle.repairs.specs.Laws.Bytes.{same-woman}
 use Rattle.repairs.specs.Laws.RepairBytes.{holds, without-parts, repair-bytes, repair-vector, up-at, at-up, down-at, at-down}
 use Rattle.repairs.specs.Laws.Demand3.{fixed-iff, takes}
 use Rattle.repairs.specs.Promise.{PairIn, pairOf, written, Without, Takes, takes-up, takes-down}
-use Rattle.repairs.specs.Between.{Side, upward, downward, EndsOn, PartsOn, RepairOn, answerOn}
+use Rattle.repairs.specs.Between.{PartsOn, RepairOn, answerOn}
 use Rattle.repairs.specs.Between.{Between, rising, falling, EachBetween, MovesToo}
-
--- a better place is another, and so is a worse one
-ends-apart : (side : Side) {new old : ℕ} → EndsOn side new old → new ≡ old → ⊥
-ends-apart upward l e = omega arith
-ends-apart downward l e = omega arith
 
 -- between, in the words of the theory
 between-min : {x y z : ℕ} → min x z ≤ y → y ≤ x → Between x y z

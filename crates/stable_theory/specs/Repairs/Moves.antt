@@ -3,11 +3,11 @@
 -- proposers is smaller. Neither repair exists exactly where the pair is fixed. Assumes nothing.
 use Prim.Native.Nat.{ℕ, _≤_, _<_, min, max}
 use mathlib.Core.Path.{_≡_, refl}
-use mathlib.Core.Bool.{true}
+use mathlib.Core.Bool.{true, false}
 use mathlib.Core.Logic.{_↔_}
 use native.Mathlib.Omega.{arith}
 use lib.Dec.{eqb}
-use borrow.Author.Tests.{eqb-false, not-true, ne-eqb}
+use borrow.Author.Tests.{eqb-true, eqb-false, not-true, not-false, ne-eqb}
 use Rattle.laws.specs.Choice.{split, same}
 use Rattle.laws.specs.SumLaws.{sum-passed}
 use Rattle.stable_theory.specs.Stable.Market.{Market, Proper}
@@ -26,7 +26,12 @@ pub moved-true : (p k : ℕ → ℕ) {i : ℕ} → moved p k i ≡ true → k i 
 unfolding moved
 moved-true p k {i} e = eqb-false (k i) (p i) (not-true (eqb (k i) (p i)) e)
 
--- and conversely
+-- it fails: k gives i the same place
+pub moved-false : (p k : ℕ → ℕ) {i : ℕ} → moved p k i ≡ false → k i ≡ p i
+unfolding moved
+moved-false p k {i} e = eqb-true (k i) (p i) (not-false (eqb (k i) (p i)) e)
+
+-- another place passes it
 pub moved-moved : (p k : ℕ → ℕ) {i : ℕ} → (k i ≡ p i → ⊥) → moved p k i ≡ true
 unfolding moved
 moved-moved p k {i} ne = rw (ne-eqb (k i) (p i) ne)

@@ -11,8 +11,8 @@ use Rattle.laws.specs.Difference.{less}
 use Rattle.laws.specs.Refill.{refilled, refilled-on, length-refilled}
 use Rattle.laws.specs.Values.{vec}
 use Rattle.format.specs.Format.{largest}
-use Rattle.repair_answer.specs.Shown.{movedAt}
-use Rattle.repair_answer.specs.Laws.Moved.{moved-on, moved-fits}
+use Rattle.nearest.specs.Moved.{movedAt}
+use Rattle.nearest.specs.Laws.Moved.{moved-on, moved-fits}
 use Rattle.repair_answer.proofs.moves.moves.Statement.{statement}
 use Rattle.repair_answer.proofs.moves.moves.Tie as tie
 

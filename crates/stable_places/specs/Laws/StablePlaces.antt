@@ -28,7 +28,7 @@ use Rattle.extremes.specs.Places.{MatchingWritable, partnerAt, womenAt}
 use Rattle.extremes.specs.Laws.ExtremeBytes.{places-writable, women-matching}
 use Rattle.stability.specs.Blocking.{OnLists}
 use Rattle.stability.specs.Judge.{FromFine, Judges}
-use Rattle.closed_subsets.specs.PlaceTests.{StableIs}
+use Rattle.stable_places.specs.Stable.{StableIs}
 
 module _ {b : List ℕ} {R : Record} (B : Read b R) {men : List ℕ} (O : OnLists (R .n) (R .mlists) men) where
   alike : Alike (marketIn R) (market b)

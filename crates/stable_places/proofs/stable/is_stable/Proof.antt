@@ -2,9 +2,9 @@
 use mathlib.Core.Path.{refl, ap}
 use borrow.Author.Needs.{needs}
 use Rattle.format.specs.Verdict.{verdictOf}
-use Rattle.closed_subsets.specs.Laws.StablePlaces.{fine-writable, written-long, stable-yes, stable-no}
-use Rattle.closed_subsets.proofs.closed.is_stable.Statement.{statement}
-use Rattle.closed_subsets.proofs.closed.is_stable.Tie as tie
+use Rattle.stable_places.specs.Laws.StablePlaces.{fine-writable, written-long, stable-yes, stable-no}
+use Rattle.stable_places.proofs.stable.is_stable.Statement.{statement}
+use Rattle.stable_places.proofs.stable.is_stable.Tie as tie
 
 -- from each place to the one before it that the proof names
 abbrev start : tie.After-write-matching → tie.Start

@@ -1,7 +1,7 @@
 -- `moved_weight` meets its contract: the two places are compared. Assumes nothing.
 use borrow.Author.Tests.{eq-eqb, ne-eqb}
-use Rattle.repair_answer.proofs.moves.moved_weight.Statement.{statement}
-use Rattle.repair_answer.proofs.moves.moved_weight.Tie as tie
+use Rattle.nearest.proofs.moved.moved_weight.Statement.{statement}
+use Rattle.nearest.proofs.moved.moved_weight.Tie as tie
 
 returns : tie.Need-returns
 returns c = rw (eq-eqb _ _ (c .if1 .taken))
