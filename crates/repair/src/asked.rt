@@ -1,5 +1,5 @@
-// Who is asked for: the pair that a request names, or the pair of a woman who gives her own number; and rules 13, 11,
-// 12 and 14, over the record of the matching.
+// Who is asked for: the pair that a request names, or two, or the pair of a woman who gives her own number; and rules
+// 13, 11, 12 and 14, over the record of the matching.
 use format::Checked;
 use format::Holder;
 use format::Pair;
@@ -7,27 +7,41 @@ use format::Partner;
 use format::Refusal;
 use format::Woman;
 use rows::holder_of;
-use rows::pair_in;
+use rows::pair_at;
 use rows::partner_of;
 use rows::refuse;
 use rows::wide;
 ghost use mathlib.Core.Path.{_≡_};
 ghost use Prim.Native.Nat.{_≤_};
+ghost use lib.Dec.{eqb};
 ghost use lib.ListN.{length};
+ghost use Rattle.laws.specs.Choice.{both};
 ghost use Rattle.laws.specs.Moment.{now₀};
 ghost use Rattle.format.specs.Format.{largest};
 ghost use Rattle.format.specs.Verdict.{broken, verdictOf};
-ghost use Rattle.repairs.specs.Request.{checkPair};
+ghost use Rattle.repairs.specs.Request.{checkTogether, checkBuffers, checkPair};
 ghost use Rattle.repair.specs.Partner.{partnerIs};
 ghost use Rattle.repair.specs.declared.asked.Asked.the-variants.{Request, Mentor};
-ghost use Rattle.repair.specs.Asked.{Asks, Holders, namedVerdict, NamedFor};
+ghost use Rattle.repair.specs.Asked.{Asks, Holders, namedVerdict, NamedFor, checkTwo};
 
-// Who is asked for: the pair that a request names, the pair of a mentor, or nobody, where a request has not two
-// entries.
+// Who is asked for where it is one pair: the pair that a request names, the pair of a mentor, or nobody, where a
+// request has neither two entries nor four.
 pub enum Asked {
     Request(Pair),
     Mentor(Woman),
     Nobody,
+}
+
+// Two pairs, in the order in which a request names them.
+pub struct TwoPairs {
+    pub first: Pair,
+    pub second: Pair,
+}
+
+// What is asked for: one pair, or two.
+pub enum Requested {
+    One(Asked),
+    Two(TwoPairs),
 }
 
 // The pair that is asked for, or a refusal.
@@ -36,14 +50,37 @@ pub enum Named {
     Refused(Refusal),
 }
 
-// Who is asked for by a request: the pair of its two entries, man then woman.
-pub(crate) fn asked_in(request: &[u8]) -> Asked
+// Whether two pairs are the same.
+fn same_pair(first: Pair, second: Pair) -> bool
+    ensures { λ r. ⌜ r ≡ both (eqb (second .man .0) (first .man .0)) (eqb (second .woman .0) (first .woman .0)) ⌝ }
+{
+    let his = first.man;
+    let hers = first.woman;
+    let man = second.man;
+    let woman = second.woman;
+    if man.0 != his.0 {
+        return false;
+    }
+    woman.0 == hers.0
+}
+
+// What is asked for by a request: the pair of its two entries, man then woman; or the two pairs of its four, the same
+// pair twice being one.
+pub(crate) fn asked_in(request: &[u8]) -> Requested
     ensures { λ r. ⌜ Asks (now₀ request) r ⌝ }
 {
-    if request.len() != 2 {
-        return Asked::Nobody;
+    if request.len() == 2 {
+        return Requested::One(Asked::Request(pair_at(request, 0)));
     }
-    Asked::Request(pair_in(request))
+    if request.len() != 4 {
+        return Requested::One(Asked::Nobody);
+    }
+    let first = pair_at(request, 0);
+    let second = pair_at(request, 2);
+    if same_pair(first, second) {
+        return Requested::One(Asked::Request(first));
+    }
+    Requested::Two(TwoPairs { first, second })
 }
 
 // The pair that is asked for, or the first of the rules 13, 11, 12 and 14 that is broken.
@@ -113,10 +150,10 @@ fn is_partner(partner: Partner, woman: Woman) -> bool
     }
 }
 
-// Rules 11, 12 and 14 of a pair, for a matching of n men.
-fn check_pair(n: usize, his: &[u8], pair: Pair, room: usize, gains_room: usize) -> Checked
+// Rules 11 and 12 of a pair, for a matching of n men.
+fn check_together(n: usize, his: &[u8], pair: Pair) -> Checked
     requires { ⌜ (n ≤ largest) × (n ≤ length (now his)) ⌝ }
-    ensures { λ r. ⌜ verdictOf r ≡ checkPair n (now₀ his) (pair .man .0) (pair .woman .0) room «gains_room» ⌝ }
+    ensures { λ r. ⌜ verdictOf r ≡ checkTogether n (now₀ his) (pair .man .0) (pair .woman .0) ⌝ }
 {
     let man = pair.man;
     let woman = pair.woman;
@@ -129,6 +166,13 @@ fn check_pair(n: usize, his: &[u8], pair: Pair, room: usize, gains_room: usize) 
     if !is_partner(partner_of(his, man), woman) {
         return refuse(12, 0);
     }
+    Checked::Fine
+}
+
+// Rule 14.
+fn check_buffers(n: usize, room: usize, gains_room: usize) -> Checked
+    ensures { λ r. ⌜ verdictOf r ≡ checkBuffers n room «gains_room» ⌝ }
+{
     if room < n {
         return refuse(14, 0);
     }
@@ -136,4 +180,35 @@ fn check_pair(n: usize, his: &[u8], pair: Pair, room: usize, gains_room: usize) 
         return refuse(14, 0);
     }
     Checked::Fine
+}
+
+// Rules 11, 12 and 14 of a pair.
+fn check_pair(n: usize, his: &[u8], pair: Pair, room: usize, gains_room: usize) -> Checked
+    requires { ⌜ (n ≤ largest) × (n ≤ length (now his)) ⌝ }
+    ensures { λ r. ⌜ verdictOf r ≡ checkPair n (now₀ his) (pair .man .0) (pair .woman .0) room «gains_room» ⌝ }
+{
+    let checked = check_together(n, his, pair);
+    let Checked::Fine = checked else {
+        return checked;
+    };
+    check_buffers(n, room, gains_room)
+}
+
+// The rules of two pairs: 11 and 12 of the first, then 11, 12 and 14 of the second.
+pub(crate) fn check_pairs(
+    n: usize,
+    his: &[u8],
+    pairs: TwoPairs,
+    room: usize,
+    gains_room: usize,
+) -> Checked
+    requires { ⌜ (n ≤ largest) × (n ≤ length (now his)) ⌝ }
+    ensures { λ r. ⌜ verdictOf r ≡ checkTwo n (now₀ his) pairs room «gains_room» ⌝ }
+{
+    let first = pairs.first;
+    let checked = check_together(n, his, first);
+    let Checked::Fine = checked else {
+        return checked;
+    };
+    check_pair(n, his, pairs.second, room, gains_room)
 }

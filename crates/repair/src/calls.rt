@@ -1,28 +1,29 @@
-// The two calls for the repair of the pair that a request names: where every student counts 1, and with weights.
+// The two calls for the repair of the pair that a request names, or of two: where every student counts 1, and with
+// weights.
 use crate::asked::asked_in;
-use crate::pair::repair_by;
+use crate::requested::repair_by;
 use format::Instance;
-use repairs::Answer;
+use repairs::RequestAnswer;
 use weights::read_weights;
 use weights::student_count;
 ghost use mathlib.Core.Path.{_≡_};
 ghost use Rattle.laws.specs.Moment.{now₀, now₁};
-ghost use Rattle.repairs.specs.Repair.{repairOutcome, repairReply, repairMatching, repairGains};
-ghost use Rattle.repairs.specs.Repair.{weightedReply, weightedMatching, weightedGains};
+ghost use Rattle.repairs.specs.Pairs.{requestOutcome, requestReply, requestMatching, requestGains};
+ghost use Rattle.repairs.specs.Pairs.{weightedRequestReply, weightedRequestMatching, weightedRequestGains};
 
-// The repair of the pair that the request names, student then mentor, or the first rule that is broken and where. A
-// repair's matching goes to the front of `out` and each student's places gained to that of `gains`; past n entries,
-// and otherwise, both stay as they were. Every student weighs 1.
+// The repair of the pair that the request names, student then mentor, or of two pairs at one go where it names two, or
+// the first rule that is broken and where. A repair's matching goes to the front of `out` and each student's places
+// gained to that of `gains`; past n entries, and otherwise, both stay as they were. Every student weighs 1.
 pub fn repair(
     book: &[u8],
     matching: &[u8],
     request: &[u8],
     out: &mut [u8],
     gains: &mut [i8],
-) -> Answer
-    ensures reply { λ r. ⌜ repairOutcome r ≡ repairReply (now₀ book) (now₀ matching) (now₀ request) (now₀ out) (now₀ gains) ⌝ }
-    ensures bytes { λ _. ⌜ now₁ out ≡ repairMatching (now₀ book) (now₀ matching) (now₀ request) (now₀ out) (now₀ gains) ⌝ }
-    ensures places { λ _. ⌜ now₁ gains ≡ repairGains (now₀ book) (now₀ matching) (now₀ request) (now₀ out) (now₀ gains) ⌝ }
+) -> RequestAnswer
+    ensures reply { λ r. ⌜ requestOutcome r ≡ requestReply (now₀ book) (now₀ matching) (now₀ request) (now₀ out) (now₀ gains) ⌝ }
+    ensures bytes { λ _. ⌜ now₁ out ≡ requestMatching (now₀ book) (now₀ matching) (now₀ request) (now₀ out) (now₀ gains) ⌝ }
+    ensures places { λ _. ⌜ now₁ gains ≡ requestGains (now₀ book) (now₀ matching) (now₀ request) (now₀ out) (now₀ gains) ⌝ }
 {
     let ones = [1u32; Instance::LARGEST];
     let all = &ones[..];
@@ -40,12 +41,12 @@ pub fn weighted_repair(
     request: &[u8],
     out: &mut [u8],
     gains: &mut [i8],
-) -> Answer
-    ensures reply { λ r. ⌜ repairOutcome r ≡ weightedReply (now₀ book) (now₀ matching) (now₀ weights) (now₀ request) (now₀ out)
+) -> RequestAnswer
+    ensures reply { λ r. ⌜ requestOutcome r ≡ weightedRequestReply (now₀ book) (now₀ matching) (now₀ weights) (now₀ request) (now₀ out)
         (now₀ gains) ⌝ }
-    ensures bytes { λ _. ⌜ now₁ out ≡ weightedMatching (now₀ book) (now₀ matching) (now₀ weights) (now₀ request) (now₀ out)
+    ensures bytes { λ _. ⌜ now₁ out ≡ weightedRequestMatching (now₀ book) (now₀ matching) (now₀ weights) (now₀ request) (now₀ out)
         (now₀ gains) ⌝ }
-    ensures places { λ _. ⌜ now₁ gains ≡ weightedGains (now₀ book) (now₀ matching) (now₀ weights) (now₀ request) (now₀ out)
+    ensures places { λ _. ⌜ now₁ gains ≡ weightedRequestGains (now₀ book) (now₀ matching) (now₀ weights) (now₀ request) (now₀ out)
         (now₀ gains) ⌝ }
 {
     let given = read_weights(weights);

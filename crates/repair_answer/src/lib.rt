@@ -4,3 +4,4 @@ mod moves;
 mod written;
 
 pub use written::answer;
+pub use written::pairs_answer;

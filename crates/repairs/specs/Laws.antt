@@ -15,4 +15,5 @@ pub mod GradeBound
 pub mod GradeSentence
 pub mod SameWeights
 pub mod UnitWeights
+pub mod PairsWeights
 pub mod Mentor

@@ -14,7 +14,7 @@ pub use lists::first_clash;
 pub use pair::holder_of;
 pub use pair::man_numbered;
 pub use pair::next_man;
-pub use pair::pair_in;
+pub use pair::pair_at;
 pub use pair::partner_of;
 pub use pair::put_holder;
 pub use pair::put_partner;

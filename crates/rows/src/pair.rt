@@ -38,13 +38,13 @@ pub fn next_man(m: Man) -> Man
     Man(m.0 + 1)
 }
 
-// The pair that a request of two entries names, man then woman.
-pub fn pair_in(request: &[u8]) -> Pair
-    requires { ⌜ length (now request) ≡ 2 ⌝ }
-    ensures { λ r. ⌜ (r .man .0 ≡ entryIn (now₀ request) 0) × (r .woman .0 ≡ entryIn (now₀ request) 1) ⌝ }
+// The pair that two entries of a request name, man then woman: those from `at` on.
+pub fn pair_at(request: &[u8], at: usize) -> Pair
+    requires { ⌜ at + 1 < length (now request) ⌝ }
+    ensures { λ r. ⌜ (r .man .0 ≡ entryIn (now₀ request) at) × (r .woman .0 ≡ entryIn (now₀ request) (at + 1)) ⌝ }
 {
-    let man = Man(request[0]);
-    let woman = Woman(request[1]);
+    let man = Man(request[at]);
+    let woman = Woman(request[at + 1]);
     Pair { man, woman }
 }
 

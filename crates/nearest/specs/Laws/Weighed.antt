@@ -25,6 +25,7 @@ use Rattle.stability.specs.Judge.{EachBook, Judges}
 use Rattle.stability.specs.Laws.Judged.{BookJudged, book-judged}
 use Rattle.repairs.specs.Weights.{checkWeights, checkWeighed}
 use Rattle.repairs.specs.Laws.Request.{weights-counted}
+use Rattle.pushing.specs.Push.{Weighed}
 use Rattle.weights.specs.Weights.{Light}
 use Rattle.weights.specs.Women.{Weighable, WomenWeighed}
 use Rattle.weights.specs.Laws.Women.{weight-with, weight-light}
@@ -77,7 +78,11 @@ module _ {b m k : List ℕ} {R : Record} {j : Judged} (A : Allowed b m k R j) wh
         counted = omega (arith, counted);
       }
 
-  -- the weights of the men, and those of the women's men, which the record of the matching gives
+  -- the weights of the men
+  pub allowed-men : Light k → Weighed (R .n) k
+  allowed-men light = record { long = omega (arith, counted); light = λ {i} u. light i }
+
+  -- and those of the women's men, which the record of the matching gives
   pub allowed-weighed : {d : List ℕ} → Light k → WomenWeighed (j .partners .hers) k (R .n) d → BothWeighed R (vec (j .places .men)) k d
   unfolding market
   allowed-weighed {d} light W =
@@ -86,7 +91,7 @@ module _ {b m k : List ℕ} {R : Record} {j : Judged} (A : Allowed b m k R j) wh
       let S = fine-stable b m .0 f in
       let P = judged-partners J f in
       record {
-        men = record { long = omega (arith, counted); light = λ {i} u. light i };
+        men = allowed-men light;
         women = record {
           long = omega (arith, judged-usable J f .few, W .long);
           light = λ {i = w} u. omega (arith, W .here u, weight-light (j .partners .hers) k w light);

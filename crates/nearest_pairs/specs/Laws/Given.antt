@@ -58,14 +58,14 @@ module _ {R : Record} {men women : List ℕ} (G : Given R men women) {s t : ℕ}
 
   -- the pushes of w and v on the women's side and of s and t on the men's, and the four candidates made of them
   pub shows-pairs :
-      {up down : Pushes} {uu ud du dd : Tried} →
+      {up down : Pushes} {uu ud du dd : Tried} {s′ t′ : ℕ} → s ≡ s′ → t ≡ t′ →
       PushedPair (exchange I) (vec weights) (vec women) w v up → PushedPair I (vec weights) (vec men) s t down →
       MadeOf (R .n) (vec weights) (vec men) (up .both .far) (up .both .receivers) uu →
       BesideIs I (vec weights) (vec men) t (up .first .far) (vec (up .first .receivers)) (down .second .far) (vec (down .second .proposers)) ud →
       BesideIs I (vec weights) (vec men) s (up .second .far) (vec (up .second .receivers)) (down .first .far) (vec (down .first .proposers)) du →
       MadeOf (R .n) (vec weights) (vec men) (down .both .far) (down .both .proposers) dd →
-      ShowsPairs I (vec men) (pairsAnswerOf I (vec weights) (vec men) s t) (nearestOf men uu ud du dd)
-  shows-pairs U D A B C E =
+      ShowsPairs I (vec men) (pairsAnswerOf I (vec weights) (vec men) s′ t′) (nearestOf men uu ud du dd)
+  shows-pairs e f U D A B C E =
       let M = G .by-men .proper in
       let P = G .stable in
       let X = G .mirror in
@@ -73,8 +73,9 @@ module _ {R : Record} {men women : List ℕ} (G : Given R men women) {s t : ℕ}
       let y = second-held in
       let most = men-most R (G .few) W (vec men) in
       let light = women-most R (G .few) W (vec women) in
-      shows-nearest M P x y most men long (λ i u. refl)
+      rw (← e, ← f)
+      (shows-nearest M P x y most men long (λ i u. refl)
       (tells-uu M P X x y (vec weights) most (U .long .1) A (U .both))
       (tells-ud M P X x y (vec weights) most (U .first) (D .second) light B)
       (tells-exchanged (tells-ud M P X y x (vec weights) most (U .second) (D .first) light C))
-      (tells-dd M P X x y (vec weights) most (D .long .0) E (D .both))
+      (tells-dd M P X x y (vec weights) most (D .long .0) E (D .both)))

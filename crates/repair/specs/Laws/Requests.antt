@@ -1,33 +1,28 @@
 -- What a request asks for has the reply to the request, and its two buffers. Assumes nothing.
-use Prim.Native.Nat.{ℕ, _<_}
+use Prim.Native.Nat.{ℕ}
 use mathlib.Core.Path.{_≡_, refl, sym, _∙_, ap}
 use mathlib.Core.List.{List, []}
 use native.Mathlib.Omega.{arith}
 use lib.ListN.{length}
 use lib.IntN.{ℤ}
-use Rattle.laws.specs.Choice.{split}
 use Rattle.format.specs.Verdict.{Verdict, fine, refused, broken, andThen}
 use Rattle.format.specs.Laws.Outcome.{in-turn, held-in-turn}
-use Rattle.format.specs.Outcome.{refusal, after, filled, orRefused}
-use Rattle.format.specs.Format.{people, pairRow}
-use Rattle.format.specs.Laws.Rows.{entries-same, pair-first, pair-second, pair-long}
+use Rattle.format.specs.Outcome.{refusal, after, filled, orRefused, told}
+use Rattle.format.specs.Format.{people}
 use Rattle.repairs.specs.Weights.{checkWeighed}
-use Rattle.repairs.specs.Request.{askingMan, askingWoman, checkAsked}
+use Rattle.repairs.specs.declared.answer.Answer.{Answer}
+use Rattle.repairs.specs.declared.answer.RequestAnswer.{RequestAnswer}
+use Rattle.repairs.specs.declared.answer.RequestAnswer.the-variants.{Pair, Pairs}
+use Rattle.repairs.specs.Request.{forOne, checkAsked}
 use Rattle.repairs.specs.Repair.{weightedReply, weightedMatching, weightedGains}
+use Rattle.repairs.specs.Pairs.{one, two, requestOutcome, weightedRequestReply, weightedRequestMatching, weightedRequestGains}
 use Rattle.repairs.specs.Laws.Request.{asked-13}
 use Rattle.repair.specs.declared.asked.Asked.{Asked}
 use Rattle.repair.specs.declared.asked.Asked.the-variants.{Request, Mentor, Nobody}
-use Rattle.repair.specs.Asked.{Asks}
-use Rattle.repair.specs.Repaired.{askedReply, askedMatching, askedGains}
-
--- a request of two entries is the row of these
-row-of : (q : List ℕ) {x y : ℕ} → length q ≡ 2 → x ≡ askingMan q → y ≡ askingWoman q → pairRow x y ≡ q
-row-of q {x} {y} l a c =
-    entries-same _ q (pair-long x y ∙ sym l)
-    (λ i (u : i < length (pairRow x y)).
-    split 1 i
-    (λ h. let e : i ≡ 1 = omega (arith, pair-long x y) in rw e (pair-second x y ∙ c))
-    (λ h. let e : i ≡ 0 = omega arith in rw e (pair-first x y ∙ a)))
+use Rattle.repair.specs.declared.asked.Requested.{Requested}
+use Rattle.repair.specs.declared.asked.Requested.the-variants.{One, Two}
+use Rattle.repair.specs.Asked.{AsksOne, Asks}
+use Rattle.repair.specs.Repaired.{askedReply, askedMatching, askedGains, Repaired, AnsweredFor, IsPair}
 
 -- Rule 13 after a check u: the answer is that refusal or u's, and the buffer is as it was
 none-reply : {A : Type 0} (u : Verdict) {x : Verdict} → x ≡ broken 13 0 → (value : A) → after (andThen u x) value ≡ orRefused u (refusal 13 0 0)
@@ -55,21 +50,56 @@ module _ (b m k q : List ℕ) (out : List ℕ) (gains : List ℤ) where
   empty : length {A = ℕ} [] ≡ 2 → ⊥
   empty e = omega arith
 
-  pub request-reply : (a : Asked) → Asks q a → askedReply b m k a out gains ≡ weightedReply b m k q out gains
-  request-reply (Request p) (l, x, y) = in-turn u fine _ _ ∙ ap (λ (r : List ℕ). weightedReply b m k r out gains) (row-of q l x y)
-  request-reply (Mentor w) h = absurd h
-  request-reply Nobody h = in-turn u fine _ _ ∙ none-reply u (none [] empty) _ ∙ sym (none-reply u (none q h) _)
+  -- so what is asked for has the reply to the request for one pair
+  one-reply : (a : Asked) → AsksOne q a → askedReply b m k a out gains ≡ weightedReply b m k q out gains
+  one-reply (Request p) e = in-turn u fine _ _ ∙ ap (λ (r : List ℕ). weightedReply b m k r out gains) e
+  one-reply (Mentor w) h = absurd h
+  one-reply Nobody h = in-turn u fine _ _ ∙ none-reply u (none [] empty) _ ∙ sym (none-reply u (none q h) _)
 
-  pub request-matching : (a : Asked) → Asks q a → askedMatching b m k a out gains ≡ weightedMatching b m k q out gains
-  request-matching (Request p) (l, x, y) =
-      held-in-turn u fine _ _ _ out ∙ ap (λ (r : List ℕ). weightedMatching b m k r out gains) (row-of q l x y)
-  request-matching (Mentor w) h = absurd h
-  request-matching Nobody h =
+  one-matching : (a : Asked) → AsksOne q a → askedMatching b m k a out gains ≡ weightedMatching b m k q out gains
+  one-matching (Request p) e = held-in-turn u fine _ _ _ out ∙ ap (λ (r : List ℕ). weightedMatching b m k r out gains) e
+  one-matching (Mentor w) h = absurd h
+  one-matching Nobody h =
       held-in-turn u fine _ _ _ out ∙ none-held u (none [] empty) _ _ out ∙ sym (none-held u (none q h) _ _ out)
 
-  pub request-gains : (a : Asked) → Asks q a → askedGains b m k a out gains ≡ weightedGains b m k q out gains
-  request-gains (Request p) (l, x, y) =
-      held-in-turn u fine _ _ _ gains ∙ ap (λ (r : List ℕ). weightedGains b m k r out gains) (row-of q l x y)
-  request-gains (Mentor w) h = absurd h
-  request-gains Nobody h =
+  one-gains : (a : Asked) → AsksOne q a → askedGains b m k a out gains ≡ weightedGains b m k q out gains
+  one-gains (Request p) e = held-in-turn u fine _ _ _ gains ∙ ap (λ (r : List ℕ). weightedGains b m k r out gains) e
+  one-gains (Mentor w) h = absurd h
+  one-gains Nobody h =
       held-in-turn u fine _ _ _ gains ∙ none-held u (none [] empty) _ _ gains ∙ sym (none-held u (none q h) _ _ gains)
+
+-- What a request has for an answer, and the two buffers
+pub record Replied (b m k q : List ℕ) (out : List ℕ) (gains : List ℤ) (r : RequestAnswer) (out′ : List ℕ) (gains′ : List ℤ) : Type 0 where
+  pub reply : requestOutcome r ≡ weightedRequestReply b m k q out gains
+  pub bytes : out′ ≡ weightedRequestMatching b m k q out gains
+  pub places : gains′ ≡ weightedRequestGains b m k q out gains
+
+-- the answer to what a request asks for is that to the request
+pub answered-request :
+    (b m k q : List ℕ) (out : List ℕ) (gains : List ℤ) {out′ : List ℕ} {gains′ : List ℤ} (a : Requested) (r : RequestAnswer) →
+    Asks q a → AnsweredFor b m k a out gains r out′ gains′ → Replied b m k q out gains r out′ gains′
+answered-request b m k q out gains (One a) (Pair r) (f, h) R =
+    record {
+      reply = rw f (ap (told one) (R .reply ∙ one-reply b m k (forOne q) out gains a h));
+      bytes = rw f (R .bytes ∙ one-matching b m k (forOne q) out gains a h);
+      places = rw f (R .places ∙ one-gains b m k (forOne q) out gains a h);
+    }
+answered-request b m k q out gains (One a) (Pairs r) A R = absurd R
+answered-request b m k q out gains (Two t) (Pair r) A R = absurd R
+answered-request b m k q out gains (Two t) (Pairs r) (f, N) R =
+    record {
+      reply = rw (f, ← N .man, ← N .woman, ← N .second-man, ← N .second-woman) (ap (told two) (R .reply));
+      bytes = rw (f, ← N .man, ← N .woman, ← N .second-man, ← N .second-woman) (R .bytes);
+      places = rw (f, ← N .man, ← N .woman, ← N .second-man, ← N .second-woman) (R .places);
+    }
+
+-- The answer to what is asked for where it is one pair
+module _ (b m k : List ℕ) (out : List ℕ) (gains : List ℤ) (a : Asked) {out′ : List ℕ} {gains′ : List ℤ} where
+  -- is one for a pair
+  pub answered-one : (r : RequestAnswer) → AnsweredFor b m k (One a) out gains r out′ gains′ → IsPair r
+  answered-one (Pair r) R = tt
+  answered-one (Pairs r) R = absurd R
+
+  -- and is that pair's
+  pub answered-pair : {r : RequestAnswer} {x : Answer} → r ≡ Pair x → AnsweredFor b m k (One a) out gains r out′ gains′ → Repaired b m k a out gains x out′ gains′
+  answered-pair e R = rw e at R

@@ -80,7 +80,7 @@ module _ {b m k : List ℕ} {a : Asked} {out : List ℕ} {gains : List ℤ} wher
       repaired-refused (c ∙ sym e) e f
 
 -- no place of a stable vector is past its list, so that it fits a signed byte
-stable-small : {R : Record} {places : List ℕ} → Usable R → Stable (marketIn R) (vec places) → length places ≡ largest → Small (R .n) places
+pub stable-small : {R : Record} {places : List ℕ} → Usable R → Stable (marketIn R) (vec places) → length places ≡ largest → Small (R .n) places
 stable-small U S e =
     record {
       long = omega (arith, U .few);
@@ -141,11 +141,11 @@ module _ {b m k : List ℕ} {R : Record} {j : Judged} (A : Allowed b m k R j) wh
 
       -- with room for the gains
       pub found-room : R .n ≤ length gains
-      found-room = asks .gains-fit
+      found-room = asks .fits .gains-fit
 
       -- of a student
       pub found-student : p .man .0 < R .n
-      found-student = omega (arith, asks .student, pair-first (p .man .0) (p .woman .0))
+      found-student = omega (arith, asks .pair .student, pair-first (p .man .0) (p .woman .0))
 
       -- who has a mentor: the two are a pair of the matching
       pair-in : PairIn b m (p .man .0)
@@ -153,7 +153,7 @@ module _ {b m k : List ℕ} {R : Record} {j : Judged} (A : Allowed b m k R j) wh
           let e = judged-number J f in
           record {
             student = omega (arith, found-student);
-            mentor = omega (arith, asks .mentor, ap (womanOf m) (pair-first (p .man .0) (p .woman .0)));
+            mentor = omega (arith, asks .pair .mentor, ap (womanOf m) (pair-first (p .man .0) (p .woman .0)));
           }
 
       -- and his place is on his list
@@ -179,7 +179,7 @@ module _ {b m k : List ℕ} {R : Record} {j : Judged} (A : Allowed b m k R j) wh
 
         -- which can be written
         pub found-writable : MatchingWritable (R .n) (R .mlists) (r .men) out
-        found-writable = places-writable (judged-usable J f) (omega (arith, S .long, judged-usable J f .few)) (asks .room-fits)
+        found-writable = places-writable (judged-usable J f) (omega (arith, S .long, judged-usable J f .few)) (asks .fits .room-fits)
 
         -- its places fit a signed byte
         pub found-small : Small (R .n) (r .men)

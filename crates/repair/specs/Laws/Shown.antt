@@ -52,7 +52,7 @@ module _ {b m : List ℕ} {R : Record} {j : Judged} (J : BookJudged b m R j) (f 
     places-stable = stable-alike (alike-sym (judged-alike J f)) (same-alike (judged-alike J f) same) S
 
     -- so the women at them are the matching of the vector
-    bytes-after : (out : List ℕ) → womenAt (R .n) (R .mlists) p ++ drop (R .n) out ≡ matchingOf b v ++ drop (people b) out
+    pub bytes-after : (out : List ℕ) → womenAt (R .n) (R .mlists) p ++ drop (R .n) out ≡ matchingOf b v ++ drop (people b) out
     bytes-after out = women-filled (judged-formed J f) (judged-tables J f) same {v = fine} refl refl out _ refl
 
     -- and the gains are those from m to it
@@ -65,11 +65,11 @@ module _ {b m : List ℕ} {R : Record} {j : Judged} (J : BookJudged b m R j) (f 
         ∙ ap (values (λ i. less (manRank b i (womanOf m i)) (manRank b i (womanOf (matchingOf b v) i))) 0) (judged-number J f)
 
     -- the weight of those who are moved is that of the bytes
-    moved-of : (c : ℕ → ℕ) → movedAt (R .n) c (vec (j .places .men)) p ≡ movedWeight (people b) c m (matchingOf b v)
+    pub moved-of : (c : ℕ → ℕ) → movedAt (R .n) c (vec (j .places .men)) p ≡ movedWeight (people b) c m (matchingOf b v)
     unfolding weight moved
     moved-of c = weight-alike (judged-alike J f) (judged-men J f) c p v same ∙ sym (moved-vector inside c S)
 
-    gains-after : (gains : List ℤ) →
+    pub gains-after : (gains : List ℤ) →
         gainsAt (R .n) (vec (j .places .men)) p ++ drop (R .n) gains ≡ gainsOf b m (matchingOf b v) ++ drop (people b) gains
     gains-after gains = ap₂ (λ (l : List ℤ) (n : ℕ). l ++ drop n gains) gains-of (judged-number J f)
 

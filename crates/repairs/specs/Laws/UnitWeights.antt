@@ -56,7 +56,7 @@ module _ (b m k : List ℕ) (E : checkMatching b m ≡ fine → UnitWeights (peo
 
 -- One weight more than the largest n shows that there are too many
 module _ (b m k : List ℕ) where
-  abbrev cut : List ℕ
+  abbrev pub cut : List ℕ
   cut = take (largest + 1) k
 
   cut-weights : {n : ℕ} → n ≤ largest → checkWeights n cut ≡ checkWeights n k

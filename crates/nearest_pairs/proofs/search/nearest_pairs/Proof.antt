@@ -101,7 +101,7 @@ apart-requires c κs =
     let m = men (women (up d)) in
     let s = start (first m) in (
       (s .pre .0 .0, s .pre .0 .1 .few, numbered-2 m),
-      ((found-up _ (up d .push-pair .ensures .first), found-down _ (d .push-pair2 .ensures .second)), s .pre .1 .1 .1),
+      ((found-up (up d .push-pair .result .first) (up d .push-pair .ensures .first), found-down (d .push-pair2 .result .second) (d .push-pair2 .ensures .second)), s .pre .1 .1 .1),
     )
 
 apart-requires-2 : tie.Need-apart-requires-2
@@ -110,7 +110,7 @@ apart-requires-2 c κs =
     let m = men (women (up d)) in
     let s = start (first m) in (
       (s .pre .0 .0, s .pre .0 .1 .few, numbered (first m)),
-      ((found-up _ (up d .push-pair .ensures .second), found-down _ (d .push-pair2 .ensures .first)), s .pre .1 .1 .1),
+      ((found-up (up d .push-pair .result .second) (up d .push-pair .ensures .second), found-down (d .push-pair2 .result .first) (d .push-pair2 .ensures .first)), s .pre .1 .1 .1),
     )
 
 returns : tie.Need-returns
@@ -128,9 +128,10 @@ returns c =
     let w = woman (place-2 x) in
     let l = placed-as G (first m .wide .ensures .0) (s .pre .1 .0 .1) in
     let h = placed-as G (m .wide2 .ensures .0) (s .pre .1 .1 .0 .1) in
-    rw (c .nearest-of .ensures, ← first m .wide .ensures .0, ← m .wide2 .ensures .0)
+    rw (c .nearest-of .ensures)
     (shows-pairs G (numbered (first m)) (numbered-2 m) l h (place w .wide3 .ensures .0, place-2 x .wide4 .ensures .0)
-    (w .list-at .ensures .0, x .list-at2 .ensures .0) (s .pre .1 .1 .1) (omega (arith, s .good)) (u .push-pair .ensures) (d .push-pair2 .ensures) (uu .candidate-at .ensures) (ud .apart .ensures) (du .apart2 .ensures) (dd .candidate-at2 .ensures))
+    (w .list-at .ensures .0, x .list-at2 .ensures .0) (s .pre .1 .1 .1) (omega (arith, s .good)) (first m .wide .ensures .0) (m .wide2 .ensures .0)
+    (u .push-pair .ensures) (d .push-pair2 .ensures) (uu .candidate-at .ensures) (ud .apart .ensures) (du .apart2 .ensures) (dd .candidate-at2 .ensures))
 
 pub nearest-pairs-spec : {M : Type 1} → statement M
 nearest-pairs-spec =

@@ -1,126 +1,30 @@
--- `check_pair` meets its contract: `known` says what is left to try of a man and a woman with numbers below n, `entry`
--- that the test of his partner is that of his entry, `together` what is left of a pair of the matching, and each return
--- rewrites with the tests that led there. Assumes nothing.
-use Prim.Native.Nat.{_<_}
-use mathlib.Core.Path.{_≡_, _∙_}
-use mathlib.Core.Bool.{not}
-use native.Mathlib.Omega.{arith}
-use lib.Dec.{ltb, eqb}
-use denote.Ref.{now}
+-- `check_pair` meets its contract: rule 14 is tried where 11 and 12 are kept. Assumes nothing.
+use mathlib.Core.Path.{sym, _∙_, ap}
 use borrow.Author.Needs.{needs}
-use borrow.Author.Tests.{le-leb, lt-leb, lt-ltb, le-ltb}
-use Rattle.laws.specs.Choice.{either}
-use Rattle.format.specs.Format.{nobody}
-use Rattle.format.specs.Verdict.{Verdict, fine, rule}
-use Rattle.matchings.specs.Matching.{womanOf}
-use Rattle.repairs.specs.Request.{checkPair}
-use Rattle.repair.specs.Laws.Partner.{partner-entry}
+use Rattle.format.specs.Verdict.{verdictOf}
+use Rattle.format.specs.Laws.Verdict.{stays, goes-on}
 use Rattle.repair.proofs.asked.check_pair.Statement.{statement}
 use Rattle.repair.proofs.asked.check_pair.Tie as tie
 
-abbrev start : tie.After-wide → tie.Start
-start c = search
-
-abbrev man : tie.Else1 → tie.After-wide
-man c = search
-
-abbrev below : tie.Else2 → tie.Else1
-below c = search
-
-abbrev his : tie.After-is-partner → tie.After-partner-of
-his c = search
-
-abbrev tried : tie.Else3 → tie.After-is-partner
-tried c = search
-
-abbrev apart : tie.After-is-partner → tie.Else2
-apart c = search
-
--- the verdict on the pair, and its last rule
-abbrev verdict : tie.Start → Verdict
-verdict s =
-    let a = s .args in
-    checkPair (a .n) (now (a .his)) (a .pair .man .0) (a .pair .woman .0) (a .room) (a .gains-room)
-
-abbrev room : tie.Start → Verdict
-room s = rule (either (ltb (s .args .room) (s .args .n)) (ltb (s .args .gains-room) (s .args .n))) 14 0 fine
-
--- both have numbers below n
-man-lt : (c : tie.Else1) → let a = start (man c) .args in a .pair .man .0 < a .n
-man-lt c = omega (arith, man c .wide .ensures .0, c .if1 .left)
-
-woman-lt : (c : tie.Else2) → let a = start (man (below c)) .args in a .pair .woman .0 < a .n
-woman-lt c = let w : tie.After-wide2 = search in omega (arith, w .wide2 .ensures .0, c .if2 .left)
-
-known :
-    (c : tie.Else2) →
-    let s = start (man (below c)) in
-    let a = s .args in
-    verdict s ≡ rule (not (eqb (womanOf (now (a .his)) (a .pair .man .0)) (a .pair .woman .0))) 12 0 (room s)
-unfolding checkPair
-known c = rw (lt-leb _ _ (man-lt (below c)), lt-leb _ _ (woman-lt c))
-
--- the partner is the woman where the entry of the matching is her number
-entry :
-    (c : tie.After-is-partner) →
-    let a = start (man (below (apart c))) .args in
-    c .is-partner .result ≡ eqb (womanOf (now (a .his)) (a .pair .man .0)) (a .pair .woman .0)
-entry c =
-    let s = start (man (below (apart c))) in
-    let l : s .args .pair .woman .0 < nobody = omega (arith, woman-lt (apart c), s .pre .0) in
-    c .is-partner .ensures ∙ partner-entry (his c .partner-of .result) _ _ (his c .partner-of .ensures) l
-
-together : (c : tie.Else3) → let s = start (man (below (apart (tried c)))) in verdict s ≡ room s
-together c = rw (known (apart (tried c)), ← entry (tried c), c .if3 .left)
-
 returns : tie.Need-returns
-unfolding checkPair
 returns c =
-    let w : tie.After-wide = search in
-    let t : tie.Then1 = search in
-    rw (← w .wide .ensures .0, le-leb _ _ (t .if1 .taken)) (c .refuse .ensures)
+    let t : tie.After-check-together = search in
+    let e = t .check-together .ensures in
+    e ∙ sym (stays _ _ (sym e ∙ ap verdictOf (c .enum-told2 .given .1)))
 
 returns-2 : tie.Need-returns-2
-unfolding checkPair
 returns-2 c =
-    let w : tie.After-wide2 = search in
-    let e : tie.Else1 = search in
-    let t : tie.Then2 = search in
-    rw (lt-leb _ _ (man-lt e), ← w .wide2 .ensures .0, le-leb _ _ (t .if2 .taken)) (c .refuse2 .ensures)
-
-returns-3 : tie.Need-returns-3
-returns-3 c =
-    let h : tie.After-is-partner = search in
-    let t : tie.Then3 = search in
-    rw (known (apart h), ← entry h, t .if3 .taken) (c .refuse3 .ensures)
-
-returns-4 : tie.Need-returns-4
-returns-4 c = let e : tie.Else3 = search in rw (together e, lt-ltb _ _ (c .before .if4 .taken)) (c .refuse4 .ensures)
-
-returns-5 : tie.Need-returns-5
-returns-5 c =
-    let e : tie.Else3 = search in
-    rw (together e, le-ltb _ _ (c .before .before .if4 .left), lt-ltb _ _ (c .before .if5 .taken)) (c .refuse5 .ensures)
-
-returns-6 : tie.Need-returns-6
-returns-6 c = let e : tie.Else3 = search in rw (together e, le-ltb _ _ (c .before .if4 .left), le-ltb _ _ (c .if5 .left))
+    let t : tie.After-check-together = search in
+    let n : tie.After-enum-told = search in
+    c .check-buffers .ensures ∙ sym (goes-on _ _ (sym (t .check-together .ensures) ∙ ap verdictOf (n .enum-told .given .1)))
 
 pub check-pair-spec : {M : Type 1} → statement M
 check-pair-spec =
     tie.close
     (tie.spec
     (λ c κs. search needs)
-    (λ c κs. search needs)
+    (λ c. search needs)
+    (λ c. search needs)
     returns
     (λ c κs. search needs)
-    (λ c κs. search needs)
-    returns-2
-    (λ c κs. let e : tie.Else1 = search in let s : tie.Start = search in omega (arith, man-lt e, s .pre .1))
-    (λ c κs. search needs)
-    (λ c κs. search needs)
-    returns-3
-    (λ c κs. search needs)
-    returns-4
-    (λ c κs. search needs)
-    returns-5
-    returns-6)
+    returns-2)

@@ -1,4 +1,4 @@
--- `repair` meets its contract: who is asked for has the reply to the request, and with a weight of 1 for each student
+-- `repair` meets its contract: what is asked for has the reply to the request, and with a weight of 1 for each student
 -- that is the plain one. Assumes nothing.
 use Prim.Native.Nat.{_≤_}
 use mathlib.Core.Path.{sym, _∙_}
@@ -7,9 +7,9 @@ use denote.Ref.{now}
 use lib.ListN.{take}
 use borrow.Author.Needs.{needs}
 use Rattle.format.specs.Format.{largest}
-use Rattle.repairs.specs.Laws.UnitWeights.{unit-reply, unit-matching, unit-gains}
+use Rattle.repairs.specs.Laws.PairsWeights.{unit-request-reply, unit-request-matching, unit-request-gains}
 use Rattle.weights.specs.Laws.Ones.{ones, ones-length, ones-light-given, ones-unit}
-use Rattle.repair.specs.Laws.Requests.{request-reply, request-matching, request-gains}
+use Rattle.repair.specs.Laws.Requests.{answered-request}
 use Rattle.repair.proofs.calls.repair.Statement.{statement}
 use Rattle.repair.proofs.calls.repair.Tie as tie
 
@@ -37,14 +37,9 @@ returns c =
     let gains = now (a .gains) in
     let k = take (n .student-count .result) ones in
     let E = ones-unit b m (n .student-count .ensures) in
-    let x = w .asked-in .result in
-    let A = w .asked-in .ensures in
-    let R = r .repair-by .ensures in (
-      R .0 ∙ request-reply b m k q out gains x A ∙ unit-reply b m k E q out gains,
-      (
-        R .1 .0 ∙ request-matching b m k q out gains x A ∙ unit-matching b m k E q out gains,
-        R .1 .1 ∙ request-gains b m k q out gains x A ∙ unit-gains b m k E q out gains,
-      ),
+    let R = answered-request b m k q out gains (w .asked-in .result) (r .repair-by .result) (w .asked-in .ensures) (r .repair-by .ensures) in (
+      R .reply ∙ unit-request-reply b m k E q out gains,
+      (R .bytes ∙ unit-request-matching b m k E q out gains, R .places ∙ unit-request-gains b m k E q out gains),
     )
 
 pub repair-spec : {M : Type 1} → statement M

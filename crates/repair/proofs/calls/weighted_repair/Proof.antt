@@ -1,13 +1,13 @@
--- `weighted_repair` meets its contract: who is asked for has the reply to the request, and the weights that are read
+-- `weighted_repair` meets its contract: what is asked for has the reply to the request, and the weights that are read
 -- are those given, as far as they matter. Assumes nothing.
 use Prim.Native.Nat.{ℕ}
 use mathlib.Core.Path.{_∙_, ap}
 use mathlib.Core.List.{List}
 use denote.Ref.{now}
 use borrow.Author.Needs.{needs}
-use Rattle.repairs.specs.Repair.{weightedReply, weightedMatching, weightedGains}
-use Rattle.repairs.specs.Laws.UnitWeights.{cut-reply, cut-matching, cut-gains}
-use Rattle.repair.specs.Laws.Requests.{request-reply, request-matching, request-gains}
+use Rattle.repairs.specs.Pairs.{weightedRequestReply, weightedRequestMatching, weightedRequestGains}
+use Rattle.repairs.specs.Laws.PairsWeights.{cut-request-reply, cut-request-matching, cut-request-gains}
+use Rattle.repair.specs.Laws.Requests.{answered-request}
 use Rattle.repair.proofs.calls.weighted_repair.Statement.{statement}
 use Rattle.repair.proofs.calls.weighted_repair.Tie as tie
 
@@ -25,13 +25,11 @@ returns c =
     let out = now (a .out) in
     let gains = now (a .gains) in
     let given = now (a .weights) in
-    let x = t .asked-in .result in
-    let A = t .asked-in .ensures in
-    let R = r .repair-by .ensures in (
-      R .0 ∙ request-reply b m _ q out gains x A ∙ ap (λ (k : List ℕ). weightedReply b m k q out gains) e ∙ cut-reply b m given q out gains,
+    let R = answered-request b m _ q out gains (t .asked-in .result) (r .repair-by .result) (t .asked-in .ensures) (r .repair-by .ensures) in (
+      R .reply ∙ ap (λ (k : List ℕ). weightedRequestReply b m k q out gains) e ∙ cut-request-reply b m given q out gains,
       (
-        R .1 .0 ∙ request-matching b m _ q out gains x A ∙ ap (λ (k : List ℕ). weightedMatching b m k q out gains) e ∙ cut-matching b m given q out gains,
-        R .1 .1 ∙ request-gains b m _ q out gains x A ∙ ap (λ (k : List ℕ). weightedGains b m k q out gains) e ∙ cut-gains b m given q out gains,
+        R .bytes ∙ ap (λ (k : List ℕ). weightedRequestMatching b m k q out gains) e ∙ cut-request-matching b m given q out gains,
+        R .places ∙ ap (λ (k : List ℕ). weightedRequestGains b m k q out gains) e ∙ cut-request-gains b m given q out gains,
       ),
     )
 

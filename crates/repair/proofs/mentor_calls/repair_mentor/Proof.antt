@@ -9,6 +9,8 @@ use borrow.Author.Needs.{needs}
 use Rattle.format.specs.Format.{largest}
 use Rattle.repairs.specs.Laws.Mentor.{unit-mentor-reply, unit-mentor-matching, unit-mentor-gains}
 use Rattle.weights.specs.Laws.Ones.{ones, ones-length, ones-light-given, ones-unit}
+use Rattle.repair.specs.declared.asked.Asked.the-variants.{Mentor}
+use Rattle.repair.specs.Laws.Requests.{answered-one, answered-pair}
 use Rattle.repair.proofs.mentor_calls.repair_mentor.Statement.{statement}
 use Rattle.repair.proofs.mentor_calls.repair_mentor.Tie as tie
 
@@ -24,6 +26,7 @@ repair-by-requires c κs = let n : tie.After-student-count = search in ones-ligh
 
 returns : tie.Need-returns
 returns c =
+    let o : tie.After-sole = search in
     let r : tie.After-repair-by = search in
     let n : tie.After-student-count = search in
     let s : tie.Start = search in
@@ -33,13 +36,21 @@ returns c =
     let w = a .mentor .0 in
     let k = take (n .student-count .result) ones in
     let E = ones-unit b m (n .student-count .ensures) in
-    let R = r .repair-by .ensures in (
-      R .0 ∙ unit-mentor-reply b m k E w (now (a .out)) (now (a .gains)),
+    let R = answered-pair b m k (now (a .out)) (now (a .gains)) (Mentor (a .mentor)) (o .sole .ensures) (r .repair-by .ensures) in
+    (
+      R .reply ∙ unit-mentor-reply b m k E w (now (a .out)) (now (a .gains)),
       (
-        R .1 .0 ∙ unit-mentor-matching b m k E w (now (a .out)) (now (a .gains)),
-        R .1 .1 ∙ unit-mentor-gains b m k E w (now (a .out)) (now (a .gains)),
+        R .bytes ∙ unit-mentor-matching b m k E w (now (a .out)) (now (a .gains)),
+        R .places ∙ unit-mentor-gains b m k E w (now (a .out)) (now (a .gains)),
       ),
     )
+
+sole-requires : tie.Need-sole-requires
+sole-requires c κs =
+    let r : tie.After-repair-by = search in
+    let s : tie.Start = search in
+    let a = s .args in
+    answered-one (now (a .book)) (now (a .matching)) _ (now (a .out)) (now (a .gains)) (Mentor (a .mentor)) (r .repair-by .result) (r .repair-by .ensures)
 
 pub repair-mentor-spec : {M : Type 1} → statement M
 repair-mentor-spec =
@@ -49,6 +60,7 @@ repair-mentor-spec =
     (λ c κs. search needs)
     slice-aggregate-repair-by
     repair-by-requires
+    sole-requires
     (λ c. search needs)
     (λ c. search needs)
     returns)

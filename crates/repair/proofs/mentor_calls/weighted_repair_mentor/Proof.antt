@@ -7,11 +7,14 @@ use denote.Ref.{now}
 use borrow.Author.Needs.{needs}
 use Rattle.repairs.specs.Mentor.{weightedMentorReply, weightedMentorMatching, weightedMentorGains}
 use Rattle.repairs.specs.Laws.Mentor.{cut-mentor-reply, cut-mentor-matching, cut-mentor-gains}
+use Rattle.repair.specs.declared.asked.Asked.the-variants.{Mentor}
+use Rattle.repair.specs.Laws.Requests.{answered-one, answered-pair}
 use Rattle.repair.proofs.mentor_calls.weighted_repair_mentor.Statement.{statement}
 use Rattle.repair.proofs.mentor_calls.weighted_repair_mentor.Tie as tie
 
 returns : tie.Need-returns
 returns c =
+    let o : tie.After-sole = search in
     let r : tie.After-repair-by = search in
     let t : tie.After-read-weights = search in
     let e = t .read-weights .ensures .1 .0 in
@@ -23,13 +26,21 @@ returns c =
     let out = now (a .out) in
     let gains = now (a .gains) in
     let given = now (a .weights) in
-    let R = r .repair-by .ensures in (
-      R .0 ∙ ap (λ (k : List ℕ). weightedMentorReply b m k w out gains) e ∙ cut-mentor-reply b m given w out gains,
+    let R = answered-pair b m _ out gains (Mentor (a .mentor)) (o .sole .ensures) (r .repair-by .ensures) in
+    (
+      R .reply ∙ ap (λ (k : List ℕ). weightedMentorReply b m k w out gains) e ∙ cut-mentor-reply b m given w out gains,
       (
-        R .1 .0 ∙ ap (λ (k : List ℕ). weightedMentorMatching b m k w out gains) e ∙ cut-mentor-matching b m given w out gains,
-        R .1 .1 ∙ ap (λ (k : List ℕ). weightedMentorGains b m k w out gains) e ∙ cut-mentor-gains b m given w out gains,
+        R .bytes ∙ ap (λ (k : List ℕ). weightedMentorMatching b m k w out gains) e ∙ cut-mentor-matching b m given w out gains,
+        R .places ∙ ap (λ (k : List ℕ). weightedMentorGains b m k w out gains) e ∙ cut-mentor-gains b m given w out gains,
       ),
     )
+
+sole-requires : tie.Need-sole-requires
+sole-requires c κs =
+    let r : tie.After-repair-by = search in
+    let s : tie.Start = search in
+    let a = s .args in
+    answered-one (now (a .book)) (now (a .matching)) _ (now (a .out)) (now (a .gains)) (Mentor (a .mentor)) (r .repair-by .result) (r .repair-by .ensures)
 
 pub weighted-repair-mentor-spec : {M : Type 1} → statement M
 weighted-repair-mentor-spec =
@@ -39,6 +50,7 @@ weighted-repair-mentor-spec =
     (λ c. search needs)
     (λ c. search needs)
     (λ c κs. search needs)
+    sole-requires
     (λ c. search needs)
     (λ c. search needs)
     returns)

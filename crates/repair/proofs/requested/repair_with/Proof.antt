@@ -1,14 +1,13 @@
 -- `repair_with` meets its contract: the answer for the book that was loaded. Assumes nothing.
 use borrow.Author.Needs.{needs}
-use Rattle.repair.proofs.pair.repair_with.Statement.{statement}
-use Rattle.repair.proofs.pair.repair_with.Tie as tie
+use Rattle.repair.proofs.requested.repair_with.Statement.{statement}
+use Rattle.repair.proofs.requested.repair_with.Tie as tie
 
 returns : tie.Need-returns
 returns c =
     let l : tie.After-load = search in
     let r : tie.After-repair-in = search in
-    let A = r .repair-in .ensures _ (l .load .ensures) in
-    (A .reply, (A .bytes, A .places))
+    r .repair-in .ensures _ (l .load .ensures)
 
 pub repair-with-spec : {M : Type 1} → statement M
 repair-with-spec =

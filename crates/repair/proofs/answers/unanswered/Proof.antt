@@ -5,8 +5,8 @@ use Rattle.format.specs.Outcome.{after}
 use Rattle.repairs.specs.Repair.{fixed}
 use Rattle.repair.specs.declared.asked.Named.{Named}
 use Rattle.repair.specs.Asked.{namedVerdict}
-use Rattle.repair.proofs.pair.unanswered.Statement.{statement}
-use Rattle.repair.proofs.pair.unanswered.Tie as tie
+use Rattle.repair.proofs.answers.unanswered.Statement.{statement}
+use Rattle.repair.proofs.answers.unanswered.Tie as tie
 
 returns : tie.Need-returns
 returns c = sym (ap (λ (k : Named). after (namedVerdict k) fixed) (c .before .named .given .1))

@@ -1,8 +1,8 @@
 -- `repair_by` meets its contract: small tables are lent where they do, and otherwise large ones. Assumes nothing.
 use borrow.Author.Needs.{needs}
 use Rattle.format.specs.Laws.LongTables.{small-tables, large-tables}
-use Rattle.repair.proofs.pair.repair_by.Statement.{statement}
-use Rattle.repair.proofs.pair.repair_by.Tie as tie
+use Rattle.repair.proofs.requested.repair_by.Statement.{statement}
+use Rattle.repair.proofs.requested.repair_by.Tie as tie
 
 repair-with-requires : tie.Need-repair-with-requires
 repair-with-requires c κs =
