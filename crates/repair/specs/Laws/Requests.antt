@@ -94,12 +94,14 @@ answered-request b m k q out gains (Two t) (Pairs r) (f, N) R =
     }
 
 -- The answer to what is asked for where it is one pair
-module _ (b m k : List ℕ) (out : List ℕ) (gains : List ℤ) (a : Asked) {out′ : List ℕ} {gains′ : List ℤ} where
+module _ (b m k : List ℕ) (out : List ℕ) (gains : List ℤ) (a : Asked) where
   -- is one for a pair
-  pub answered-one : (r : RequestAnswer) → AnsweredFor b m k (One a) out gains r out′ gains′ → IsPair r
-  answered-one (Pair r) R = tt
-  answered-one (Pairs r) R = absurd R
+  pub answered-one : (out′ : List ℕ) (gains′ : List ℤ) (r : RequestAnswer) → AnsweredFor b m k (One a) out gains r out′ gains′ → IsPair r
+  answered-one out′ gains′ (Pair r) R = tt
+  answered-one out′ gains′ (Pairs r) R = absurd R
 
   -- and is that pair's
-  pub answered-pair : {r : RequestAnswer} {x : Answer} → r ≡ Pair x → AnsweredFor b m k (One a) out gains r out′ gains′ → Repaired b m k a out gains x out′ gains′
-  answered-pair e R = rw e at R
+  pub answered-pair :
+      (out′ : List ℕ) (gains′ : List ℤ) {r : RequestAnswer} {x : Answer} → r ≡ Pair x → AnsweredFor b m k (One a) out gains r out′ gains′ →
+      Repaired b m k a out gains x out′ gains′
+  answered-pair out′ gains′ e R = rw e at R

@@ -36,8 +36,7 @@ returns c =
     let w = a .mentor .0 in
     let k = take (n .student-count .result) ones in
     let E = ones-unit b m (n .student-count .ensures) in
-    let R = answered-pair b m k (now (a .out)) (now (a .gains)) (Mentor (a .mentor)) (o .sole .ensures) (r .repair-by .ensures) in
-    (
+    let R = answered-pair b m k (now (a .out)) (now (a .gains)) (Mentor (a .mentor)) _ _ (o .sole .ensures) (r .repair-by .ensures) in (
       R .reply ∙ unit-mentor-reply b m k E w (now (a .out)) (now (a .gains)),
       (
         R .bytes ∙ unit-mentor-matching b m k E w (now (a .out)) (now (a .gains)),
@@ -50,7 +49,7 @@ sole-requires c κs =
     let r : tie.After-repair-by = search in
     let s : tie.Start = search in
     let a = s .args in
-    answered-one (now (a .book)) (now (a .matching)) _ (now (a .out)) (now (a .gains)) (Mentor (a .mentor)) (r .repair-by .result) (r .repair-by .ensures)
+    answered-one (now (a .book)) (now (a .matching)) _ (now (a .out)) (now (a .gains)) (Mentor (a .mentor)) _ _ (r .repair-by .result) (r .repair-by .ensures)
 
 pub repair-mentor-spec : {M : Type 1} → statement M
 repair-mentor-spec =

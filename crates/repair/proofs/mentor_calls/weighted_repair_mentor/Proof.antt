@@ -26,8 +26,7 @@ returns c =
     let out = now (a .out) in
     let gains = now (a .gains) in
     let given = now (a .weights) in
-    let R = answered-pair b m _ out gains (Mentor (a .mentor)) (o .sole .ensures) (r .repair-by .ensures) in
-    (
+    let R = answered-pair b m _ out gains (Mentor (a .mentor)) _ _ (o .sole .ensures) (r .repair-by .ensures) in (
       R .reply ∙ ap (λ (k : List ℕ). weightedMentorReply b m k w out gains) e ∙ cut-mentor-reply b m given w out gains,
       (
         R .bytes ∙ ap (λ (k : List ℕ). weightedMentorMatching b m k w out gains) e ∙ cut-mentor-matching b m given w out gains,
@@ -40,7 +39,7 @@ sole-requires c κs =
     let r : tie.After-repair-by = search in
     let s : tie.Start = search in
     let a = s .args in
-    answered-one (now (a .book)) (now (a .matching)) _ (now (a .out)) (now (a .gains)) (Mentor (a .mentor)) (r .repair-by .result) (r .repair-by .ensures)
+    answered-one (now (a .book)) (now (a .matching)) _ (now (a .out)) (now (a .gains)) (Mentor (a .mentor)) _ _ (r .repair-by .result) (r .repair-by .ensures)
 
 pub weighted-repair-mentor-spec : {M : Type 1} → statement M
 weighted-repair-mentor-spec =
