@@ -32,7 +32,7 @@ extern "C" {
 /* The version of this interface. The second number rises where something is added, the first where a program that was
  * written for the version before may have to be changed. */
 #define PLACEMENT_VERSION_MAJOR 2
-#define PLACEMENT_VERSION_MINOR 1
+#define PLACEMENT_VERSION_MINOR 2
 
 /* The largest of each over all books: buffers of these sizes are always long enough. */
 #define PLACEMENT_LARGEST_N 64                /* students, and mentors: bytes of a matching, entries of the gains */
@@ -73,7 +73,7 @@ enum placement_refusal {
     PLACEMENT_UNSTABLE = 10,  /* a pair blocks. Place: the lowest blocking student; second: his best-ranked such mentor */
     PLACEMENT_UNKNOWN = 11,   /* no student, mentor or rotation has the number; PLACEMENT_NOBODY is no mentor's */
     PLACEMENT_APART = 12,     /* the two are not together, or the student, or the mentor who asks, is alone */
-    PLACEMENT_ONE_PAIR = 13,  /* the request is not two bytes, student then mentor */
+    PLACEMENT_ONE_PAIR = 13,  /* the request is neither two bytes, student then mentor, nor four, two such pairs */
     PLACEMENT_SHEET = 14,     /* a result buffer is too short */
     PLACEMENT_MARKS = 15,     /* the set has a wrong length or a byte over 1 */
     PLACEMENT_OPEN = 16,      /* the set is not closed */
@@ -82,11 +82,20 @@ enum placement_refusal {
     PLACEMENT_UNLISTED = 19   /* a given pair does not list each other */
 };
 
+/* The letters of a repair of two pairs, the first pair's first: the low byte is the letter of the first pair's student,
+ * 'U' where he ends better off and 'D' where he ends worse off, and the byte above it that of the second pair's. */
+enum placement_two_letters {
+    PLACEMENT_UP_UP = 'U' + 256 * 'U',
+    PLACEMENT_UP_DOWN = 'U' + 256 * 'D',
+    PLACEMENT_DOWN_UP = 'D' + 256 * 'U',
+    PLACEMENT_DOWN_DOWN = 'D' + 256 * 'D'
+};
+
 struct placement_reply {
     size_t number; /* an enum placement_refusal: 0, or the rule that is broken */
     size_t place;  /* its place */
     size_t second; /* the mentor of rule 10 */
-    size_t letter; /* 'U', 'D' or 'F' of a repair, else 0 */
+    size_t letter; /* 'U', 'D' or 'F' of a repair, or of one of two pairs an enum placement_two_letters; else 0 */
     size_t value;  /* the result, as each function says */
 };
 
@@ -118,16 +127,29 @@ struct placement_reply placement_check_matching(const uint8_t *book, size_t book
 struct placement_reply placement_student_best(const uint8_t *book, size_t book_len, uint8_t *out, size_t out_len);
 struct placement_reply placement_mentor_best(const uint8_t *book, size_t book_len, uint8_t *out, size_t out_len);
 
-/* The repair of one pair. The request is two bytes, student then mentor. letter: 'U' repair up, 'D' repair down,
- * 'F' the pair is fixed; value: the distance (0 for 'F'). 'U' and 'D' write n bytes of the repaired matching to out
- * and n signed bytes to gains: old place less new, above zero is better, 0 for a student without a mentor, and the
- * distance is the number of those that are not 0. 'F' writes neither. Both buffers must hold n entries in every case.
+/* The repair of one pair, or of two at one go.
+ *
+ * One pair: the request is two bytes, student then mentor. letter: 'U' repair up, 'D' repair down, 'F' the pair is
+ * fixed; value: the distance (0 for 'F'). 'U' and 'D' write n bytes of the repaired matching to out and n signed bytes
+ * to gains: old place less new, above zero is better, 0 for a student without a mentor, and the distance is the number
+ * of those that are not 0. 'F' writes neither. Both buffers must hold n entries in every case.
  * No stable matching without the pair moves fewer students. Nobody is moved in vain: for every stable matching in which
  * the student of the pair is better off ('U'), or worse off ('D'), the mentor that out gives to any student stands on
  * his list between the given one and the one in that matching, ends counted, so that whoever is moved here is moved
  * there. A student without a mentor stays without.
- * Refused: the book, then 8, 9, 19, 10, then 13, 11, 12, then 14. A request for a student without a mentor gets 12,
- * one with the mentor byte PLACEMENT_NOBODY 11. */
+ *
+ * Two pairs: the request is four bytes, student, mentor, student, mentor. The stable matchings that hold neither pair
+ * are of four sorts, as each of the two students is better or worse off. letter: the sort of the repair, an enum
+ * placement_two_letters; 'F' where no stable matching holds neither, though each pair alone may have a repair. value and
+ * what is written are as for one pair. The candidate of a sort is the one in which every student's mentor stands on his
+ * list between the given one and the one in any other of that sort; each sort that is not empty has one. The candidate
+ * that moves fewest is given, among several the first in the order UP_UP, UP_DOWN, DOWN_UP, DOWN_DOWN. No stable
+ * matching that holds neither pair moves fewer students, and whoever is moved is moved by all of that sort. Two single
+ * repairs in a row are in general not the nearest repair of both: they may move more, or bring the first pair back.
+ * The same pair twice is answered as that pair alone, with its one letter.
+ *
+ * Refused: the book, then 8, 9, 19, 10, then 13, 11, 12, then 14; of two pairs 11 and 12 are tried on the first, then
+ * on the second. A request for a student without a mentor gets 12, one with the mentor byte PLACEMENT_NOBODY 11. */
 struct placement_reply placement_repair(const uint8_t *book, size_t book_len, const uint8_t *matching, size_t matching_len,
                                         const uint8_t *request, size_t request_len, uint8_t *out, size_t out_len,
                                         int8_t *gains, size_t gains_len);
@@ -175,11 +197,12 @@ struct placement_reply placement_matching_to_set(const uint8_t *book, size_t boo
  * directory, 2 + 8n. Where the input has fewer bytes, all of it is the book. What follows is the matching. */
 struct placement_reply placement_sheet(const uint8_t *input, size_t input_len, uint8_t *out, size_t out_len);
 
-/* The repair of one pair where each student has a weight: as placement_repair, with the total weight of the students
- * moved in place of their number. The repair of the smaller total is given, up when equal, and value is that total, the
- * weight of the students whose gain is not 0. A pair that can be repaired is 'U' or 'D' even where the total is 0.
- * Weights of 1 give the answers of placement_repair. Nobody is moved in vain here either, even one who weighs 0.
- * Refused: the book, then 8, 9, 19, 10, then 17, then 13, 11, 12, then 14. */
+/* The repair of one pair, or of two, where each student has a weight: as placement_repair, with the total weight of the
+ * students moved in place of their number. The repair of the smaller total is given, up when equal, of two pairs the
+ * candidate of the smallest, when equal in the order given there. value is that total, the weight of the students whose
+ * gain is not 0. What can be repaired is not 'F' even where the total is 0. Weights of 1 give the answers of
+ * placement_repair. Nobody is moved in vain here either, even one who weighs 0.
+ * Refused: the book, then 8, 9, 19, 10, then 17, then 13, 11, 12, then 14, as there. */
 struct placement_reply placement_weighted_repair(const uint8_t *book, size_t book_len, const uint8_t *matching, size_t matching_len,
                                                  const uint8_t *weights, size_t weights_len, const uint8_t *request,
                                                  size_t request_len, uint8_t *out, size_t out_len, int8_t *gains,

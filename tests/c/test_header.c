@@ -15,9 +15,18 @@ static void words(void)
     for (int number = 0; number < 20; number++) {
         HOLDS(numbers[number] == number);
     }
-    HOLDS(PLACEMENT_VERSION_MAJOR == 2 && PLACEMENT_VERSION_MINOR == 1);
+    HOLDS(PLACEMENT_VERSION_MAJOR == 2 && PLACEMENT_VERSION_MINOR == 2);
     HOLDS(PLACEMENT_NOBODY == 255);
     HOLDS(PLACEMENT_NO_GRADE == SIZE_MAX);
+}
+
+/* The letters of two pairs (W-207): the first pair's in the low byte, the second's above. U is 85 and D is 68. */
+static void letters(void)
+{
+    HOLDS(PLACEMENT_UP_UP == 85 + 85 * 256);
+    HOLDS(PLACEMENT_UP_DOWN == 85 + 68 * 256);
+    HOLDS(PLACEMENT_DOWN_UP == 68 + 85 * 256);
+    HOLDS(PLACEMENT_DOWN_DOWN == 68 + 68 * 256);
 }
 
 /* The repair of Table 1's matching for a request of so many of these bytes, with result buffers of so many entries. */
@@ -105,6 +114,7 @@ static void constants(void)
 void test_header(void)
 {
     words();
+    letters();
     each_rule();
     longest_sheets();
     constants();
