@@ -28,9 +28,9 @@ struct placement_reply value(size_t value)
     return r;
 }
 
-struct placement_reply answer(char letter, size_t distance)
+struct placement_reply answer(size_t letter, size_t distance)
 {
-    struct placement_reply r = {0, 0, 0, (size_t)letter, distance};
+    struct placement_reply r = {0, 0, 0, letter, distance};
     return r;
 }
 

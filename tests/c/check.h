@@ -12,11 +12,11 @@
 /* How many checks were made, and how many failed. */
 extern unsigned long checks, failures;
 
-/* Expected replies; `blocked` is that of rule 10. */
+/* Expected replies; `blocked` is that of rule 10, `answer` that of a repair, whose letter may be two. */
 struct placement_reply refused(size_t number, size_t place);
 struct placement_reply blocked(size_t student, size_t mentor);
 struct placement_reply value(size_t value);
-struct placement_reply answer(char letter, size_t distance);
+struct placement_reply answer(size_t letter, size_t distance);
 
 /* Compares a reply with the expected one. */
 void expect_at(const char *file, int line, struct placement_reply got, struct placement_reply due);
@@ -61,6 +61,9 @@ void test_weight_rules(void);
 void test_weighted_sheet(void);
 void test_mentor(void);
 void test_between(void);
+void test_pairs(void);
+void test_pair_books(void);
+void test_pair_rules(void);
 void test_short_book(void);
 void test_short_matching(void);
 void test_short_repair(void);

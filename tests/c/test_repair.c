@@ -12,7 +12,7 @@ static void recount(struct placement_reply reply, size_t n)
         for (size_t i = 0; i < n; i++) {
             moved += gains.bytes[GUARD + i] != 0;
         }
-        EXPECT(reply, answer((char)reply.letter, moved));
+        EXPECT(reply, answer(reply.letter, moved));
     }
 }
 
@@ -117,11 +117,11 @@ static void fixed_pairs(void)
 static void bad_requests(void)
 {
     static const uint8_t none[2] = {1, 0};
-    static const uint8_t good[4] = {0, 4, 0, 0}, no_student[3] = {7, 4, 0}, no_mentor[2] = {0, 7}, nobody[2] = {255, 255};
+    static const uint8_t good[5] = {0, 4, 0, 4}, no_student[3] = {7, 4, 0}, no_mentor[2] = {0, 7}, nobody[2] = {255, 255};
     static const uint8_t apart[2] = {0, 5}, apart_too[2] = {6, 4};
     struct book table_1 = book_of(7, table_1_lists);
     for (size_t room = 6; room <= 7; room++) {
-        for (size_t length = 0; length <= 4; length += length == 1 ? 2 : 1) {
+        for (size_t length = 0; length <= 5; length += length == 0 ? 1 : 2) {
             EXPECT(repair_in(table_1, table_1_m5, 7, good, length, room, 7), refused(13, 0));
         }
         EXPECT(repair_in(table_1, table_1_m5, 7, no_student, 3, 7, room), refused(13, 0));
