@@ -27,17 +27,17 @@ static const uint8_t *request_bytes(const struct asked *a)
     return fenced(3, a->request, a->request_length);
 }
 
-/* W-202: a repair up or down reports the total weight of the students whose gains, as it wrote them, are not 0; without
- * weights each of them is 1. */
+/* W-202: a repair, of one pair or two, reports the total weight of the students whose gains, as it wrote them, are not
+ * 0; without weights each of them is 1. */
 static struct placement_reply recounted(struct placement_reply reply, size_t n, const uint8_t *weights,
                                         const struct lent *out, const struct lent *gains)
 {
     size_t total = 0;
-    if (reply.letter == 'U' || reply.letter == 'D') {
+    if (reply.letter != 0 && reply.letter != 'F') {
         for (size_t i = 0; i < n; i++) {
             total += gains->bytes[GUARD + i] == 0 ? 0 : weights == NULL ? 1 : weights[i];
         }
-        EXPECT(reply, answer((char)reply.letter, total));
+        EXPECT(reply, answer(reply.letter, total));
     }
     return after_call(after_call(reply, out), gains);
 }

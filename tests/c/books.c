@@ -33,6 +33,12 @@ const struct table_1_set table_1_sets[8] = {
     {{1, 1, 1, 0, 1, 1}, {4, 3, 0, 5, 1, 2, 6}}, {{1, 1, 1, 1, 1, 1}, {1, 3, 0, 5, 4, 2, 6}},
 };
 
+const uint8_t table_1_stable[TABLE_1_STABLE][8] = {
+    {5, 4, 6, 3, 1, 0, 2, 255}, {2, 4, 6, 3, 1, 0, 5, 255}, {2, 5, 6, 3, 1, 4, 0, 255}, {4, 5, 6, 3, 1, 2, 0, 255},
+    {1, 5, 6, 3, 4, 2, 0, 255}, {2, 5, 0, 3, 1, 4, 6, 255}, {4, 5, 0, 3, 1, 2, 6, 255}, {1, 5, 0, 3, 4, 2, 6, 255},
+    {2, 3, 0, 5, 1, 4, 6, 255}, {4, 3, 0, 5, 1, 2, 6, 255}, {1, 3, 0, 5, 4, 2, 6, 255},
+};
+
 size_t list_bytes(uint8_t *out, const char *digits)
 {
     size_t length = strlen(digits);
@@ -147,6 +153,22 @@ struct book half_64(void)
         add_list(&book, k, k % 2 == 0);
     }
     return book;
+}
+
+size_t place_of(const struct book *book, size_t student, uint8_t mentor)
+{
+    const uint8_t *pair = book->bytes + 2 + 4 * student;
+    const uint8_t *list = book->bytes + pair[0] + 256 * pair[1];
+    size_t at = 0;
+    while (at < pair[2] && list[at] != mentor) {
+        at++;
+    }
+    return at;
+}
+
+int in_order(size_t x, size_t y, size_t z)
+{
+    return (x <= y && y <= z) || (z <= y && y <= x);
 }
 
 struct book with(struct book book, size_t at, uint8_t byte)

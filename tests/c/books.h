@@ -29,6 +29,12 @@ extern const struct table_1_set {
     uint8_t set[6], matching[7];
 } table_1_sets[8];
 
+/* The eleven stable matchings of Table 1, by their closed sets as Table 2 of document 000 has them: {}, {0}, {0,1},
+ * {0,1,2}, {0,1,2,3}, {0,1,4}, {0,1,2,4}, {0,1,2,3,4}, {0,1,4,5}, {0,1,2,4,5} and all six. In the shortened Table 1
+ * they have an eighth student, who is alone. */
+#define TABLE_1_STABLE 11
+extern const uint8_t table_1_stable[TABLE_1_STABLE][8];
+
 /* Three students. Two rotations: stable are 1 0 2, 2 0 1 and 2 1 0, as students 0 and 2 exchange their mentors and then
  * students 1 and 2. One fixed: students 0 and 1 can exchange mentors 0 and 1, and student 2 keeps mentor 2. */
 extern const char two_rotations_lists[], one_fixed_lists[];
@@ -69,6 +75,13 @@ struct book short_xor_64(size_t length);
 
 /* n = 64, edition 2: those of an even number list who has it on the other side, all others nobody. */
 struct book half_64(void);
+
+/* The place of a mentor on a student's list, which the directory says; the list's length where she does not stand on
+ * it. */
+size_t place_of(const struct book *book, size_t student, uint8_t mentor);
+
+/* Whether x, y and z are places in this order, or in the opposite one. */
+int in_order(size_t x, size_t y, size_t z);
 
 /* A copy with the byte at `at` changed. */
 struct book with(struct book book, size_t at, uint8_t byte);

@@ -17,6 +17,9 @@ int main(void)
     test_weighted_sheet();
     test_mentor();
     test_between();
+    test_pairs();
+    test_pair_books();
+    test_pair_rules();
     test_short_book();
     test_short_matching();
     test_short_repair();

@@ -1,20 +1,9 @@
 /* W-206, nobody is moved in vain: what a repair writes, beside stable matchings in which the asking student is better
  * off, where it is up, or worse off, where it is down. Each student's mentor stands on his list between the given one
- * and the one in that matching, ends counted. The stable matchings are literals, of Table 1 of document 000, or follow
- * from the lists of books.h. */
+ * and the one in that matching, ends counted. The stable matchings are those of books.h, or follow from its lists. */
 #include "asked.h"
 
 #include <string.h>
-
-/* The eleven stable matchings of Table 1, by their closed sets as Table 2 of document 000 has them: {}, {0}, {0,1},
- * {0,1,2}, {0,1,2,3}, {0,1,4}, {0,1,2,4}, {0,1,2,3,4}, {0,1,4,5}, {0,1,2,4,5} and all six. In the shortened Table 1 of
- * books.h they have an eighth student, who is alone. */
-enum { STABLE = 11 };
-static const uint8_t stable[STABLE][8] = {
-    {5, 4, 6, 3, 1, 0, 2, 255}, {2, 4, 6, 3, 1, 0, 5, 255}, {2, 5, 6, 3, 1, 4, 0, 255}, {4, 5, 6, 3, 1, 2, 0, 255},
-    {1, 5, 6, 3, 4, 2, 0, 255}, {2, 5, 0, 3, 1, 4, 6, 255}, {4, 5, 0, 3, 1, 2, 6, 255}, {1, 5, 0, 3, 4, 2, 6, 255},
-    {2, 3, 0, 5, 1, 4, 6, 255}, {4, 3, 0, 5, 1, 2, 6, 255}, {1, 3, 0, 5, 4, 2, 6, 255},
-};
 
 static struct lent out, gains;
 
@@ -23,25 +12,6 @@ static struct {
     size_t matchings, left;
 } met;
 
-/* The place of a mentor on a student's list, which the directory says; the list's length where she does not stand on
- * it. */
-static size_t place(const struct book *book, size_t student, uint8_t mentor)
-{
-    const uint8_t *pair = book->bytes + 2 + 4 * student;
-    const uint8_t *list = book->bytes + pair[0] + 256 * pair[1];
-    size_t at = 0;
-    while (at < pair[2] && list[at] != mentor) {
-        at++;
-    }
-    return at;
-}
-
-/* Whether x, y and z are places in this order, or in the opposite one. */
-static int between(size_t x, size_t y, size_t z)
-{
-    return (x <= y && y <= z) || (z <= y && y <= x);
-}
-
 /* Compares what was written with one other stable matching: for each student. Who is alone stays so. */
 static void compare(const struct asked *asked, const uint8_t *other)
 {
@@ -49,7 +19,8 @@ static void compare(const struct asked *asked, const uint8_t *other)
     int all_between = 1, all_moved_too = 1, alone_stay = 1;
     for (size_t i = 0; i < asked->book.n; i++) {
         const struct book *book = &asked->book;
-        all_between &= between(place(book, i, given[i]), place(book, i, written[i]), place(book, i, other[i]));
+        const size_t old = place_of(book, i, given[i]), new = place_of(book, i, written[i]);
+        all_between &= in_order(old, new, place_of(book, i, other[i]));
         all_moved_too &= written[i] == given[i] || other[i] != given[i];
         alone_stay &= (written[i] == 255) == (given[i] == 255);
         met.left += written[i] == given[i] && other[i] != given[i];
@@ -66,7 +37,7 @@ static void compare_pair(struct asked asked, size_t student, const uint8_t *othe
 {
     static const repair_call calls[4] = {plain_repair, plain_by_mentor, weighted_repair, weighted_by_mentor};
     const uint8_t request[2] = {(uint8_t)student, asked.matching[student]};
-    const size_t given = place(&asked.book, student, request[1]);
+    const size_t given = place_of(&asked.book, student, request[1]);
     asked.request = request;
     asked.mentor = request[1];
     for (size_t k = 0; k < 4; k++) {
@@ -74,7 +45,7 @@ static void compare_pair(struct asked asked, size_t student, const uint8_t *othe
         int parted = 0;
         for (size_t j = 0; j < count; j++) {
             const uint8_t *other = others + stride * j;
-            const size_t there = place(&asked.book, student, other[student]);
+            const size_t there = place_of(&asked.book, student, other[student]);
             parted |= there != given;
             if ((letter == 'U' && there < given) || (letter == 'D' && there > given)) {
                 compare(&asked, other);
@@ -107,12 +78,12 @@ static void expect_met(size_t matchings, size_t left)
 static void table_1(struct book book)
 {
     static const uint8_t ones[8] = {1, 1, 1, 1, 1, 1, 1, 1}, others[8] = {1, 1, 9, 1, 1, 3, 1, 255};
-    for (size_t k = 0; k < STABLE; k++) {
-        compare_all(asked_of(book, stable[k], ones, NULL), stable[0], 8, STABLE);
+    for (size_t k = 0; k < TABLE_1_STABLE; k++) {
+        compare_all(asked_of(book, table_1_stable[k], ones, NULL), table_1_stable[0], 8, TABLE_1_STABLE);
     }
     expect_met(4 * 407, 4 * 892);
-    for (size_t k = 0; k < STABLE; k++) {
-        compare_all(asked_of(book, stable[k], others, NULL), stable[0], 8, STABLE);
+    for (size_t k = 0; k < TABLE_1_STABLE; k++) {
+        compare_all(asked_of(book, table_1_stable[k], others, NULL), table_1_stable[0], 8, TABLE_1_STABLE);
     }
     expect_met(2 * 407 + 2 * 388, 2 * 892 + 2 * 824);
 }
@@ -125,9 +96,9 @@ static void student_0(void)
     static const size_t beside[5] = {2, 0, 1, 5, 8}, more[5] = {0, 2, 2, 2, 4};
     struct asked asked = asked_of(book_of(7, table_1_lists), table_1_m5, NULL, pair);
     EXPECT(plain_repair(&asked, &out, &gains), answer('U', 2));
-    WROTE(&out, stable[2], 7);
+    WROTE(&out, table_1_stable[2], 7);
     for (size_t k = 0; k < 5; k++) {
-        compare(&asked, stable[beside[k]]);
+        compare(&asked, table_1_stable[beside[k]]);
         expect_met(1, more[k]);
     }
 }
