@@ -52,6 +52,38 @@ class Market(Book):
         side = [x for x in self.all_stable if x[s] != m[s] and all(sign * gain >= 0 for gain in self.gains(m, x))]
         return letter, total, min(side, key=lambda x: sum(map(abs, self.gains(m, x))), default=None)
 
+    def sorts(self, m, first, second):
+        """The stable matchings that hold neither student's pair, by their letters, in the order of W-207."""
+        found = {"UU": [], "UD": [], "DU": [], "DD": []}
+        for x in self.all_stable:
+            one, other = (self.gains(m, x)[s] for s in (first, second))
+            if one != 0 and other != 0:
+                found[("U" if one > 0 else "D") + ("U" if other > 0 else "D")].append(x)
+        return found
+
+    def candidate(self, m, those):
+        """Of a sort the one in which every student's mentor stands between the given one and that of any other; None
+        where the sort is empty."""
+        found = [x for x in those if all(sorted(p)[1] == p[1] for y in those for p in self.places(m, x, y))]
+        assert len(found) == min(len(those), 1)
+        return found[0] if found else None
+
+    def repair_both(self, m, first, second, weights):
+        """The letters of two students' pairs, the total weight of the students moved, and the repaired matching, None
+        for F (W-207). The same pair twice is repaired as that pair alone."""
+        if first == second:
+            return self.repair(m, first, weights)
+        sorts = self.sorts(m, first, second)
+        answers = [(letters, self.total(m, x, weights), x) for letters, those in sorts.items()
+                   if (x := self.candidate(m, those)) is not None]
+        best = min(answers, key=lambda given: given[1], default=("F", 0, None))
+        assert all(best[1] <= self.total(m, x, weights) for those in sorts.values() for x in those)
+        return best
+
+    def total(self, m, new, weights):
+        """The weight of the students moved."""
+        return sum(weights[s] for s in self.people if new[s] != m[s])
+
     def grade(self, m, weights):
         """The largest total less the own weight, or None where no pair can be repaired (W-204)."""
         repairs = [(s, *self.repair(m, s, weights)) for s in self.people]

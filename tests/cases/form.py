@@ -36,9 +36,10 @@ def graded(grade):
     return fine(2**64 - 1 if grade is None else grade)
 
 
-def moved(letter, distance):
-    """The reply of a repair; with weights the total is given for the distance."""
-    return [0, 0, 0, ord(letter), distance]
+def moved(letters, distance):
+    """The reply of a repair; with weights the total is given for the distance. The letter is U, D or F, or of two pairs
+    (W-207) the first pair's and above it the second's."""
+    return [0, 0, 0, sum(256**k * ord(letter) for k, letter in enumerate(letters)), distance]
 
 
 def refused(number, place=0, second=0):

@@ -1,4 +1,5 @@
-// Runs the calls of the C interface on cases that stand one after the other on standard input, 524,288 bytes at most.
+// Runs the calls of the C interface on cases that stand one after the other on standard input, 1,048,576 bytes at
+// most.
 //
 // A case is one byte, the number of the call: in the order of include/placement.h, but the two calls by a mentor's
 // number come last. Then eight numbers of two bytes, low byte first: two that the call may take (n, a person, two
@@ -15,7 +16,7 @@ mod print;
 use libc::STDIN_FILENO;
 
 fn main() {
-    let mut input = [0u8; 524288];
+    let mut input = [0u8; 1048576];
     let len = io::read_full(STDIN_FILENO, &mut input);
     input::run_all(&input[..len]);
 }
