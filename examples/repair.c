@@ -1,8 +1,9 @@
-/* Asks for the repair of one pair and prints the answer.
+/* Asks for the repair of one pair, or of two, and prints the answer.
  *
  *     gcc -Iinclude examples/repair.c target/staticlib/libplacement.a -o target/repair
- *     target/repair FILE STUDENT MENTOR       the pair by both numbers
- *     target/repair FILE MENTOR               by the mentor's alone
+ *     target/repair FILE STUDENT MENTOR                   the pair by both numbers
+ *     target/repair FILE MENTOR                           by the mentor's alone
+ *     target/repair FILE STUDENT MENTOR STUDENT MENTOR    two pairs at one go
  *
  * FILE holds a book of either edition and after it the matching, as the sheet program takes them; examples/table-1 and
  * examples/short-lists are such files. */
@@ -69,22 +70,24 @@ static const char *mentor_text(uint8_t mentor)
     return mentor == PLACEMENT_NOBODY ? "-" : text;
 }
 
-/* Prints a refusal; where the pair was asked for by its mentor alone, the student of the request is not read. */
-static void print_refusal(struct placement_reply reply, const uint8_t *request, int by_mentor, const uint8_t *matching)
+/* Prints a refusal. One number is a mentor's, four are two pairs; if they are not together, the first that is not is
+ * meant. */
+static void print_refusal(struct placement_reply reply, const uint8_t *numbers, int count, const uint8_t *matching)
 {
     switch (reply.number) {
     case PLACEMENT_UNSTABLE:
         printf("refused: student %zu and mentor %zu block the matching\n", reply.place, reply.second);
         break;
     case PLACEMENT_UNKNOWN:
-        printf("refused: %sno mentor has that number\n", by_mentor ? "" : "no student or ");
+        printf("refused: %sno mentor has that number\n", count == 1 ? "" : "no student or ");
         break;
     case PLACEMENT_APART:
-        if (by_mentor) {
-            printf("refused: mentor %u has no student\n", request[1]);
+        if (count == 1) {
+            printf("refused: mentor %u has no student\n", numbers[0]);
         } else {
-            printf("refused: the two are not together; student %u has mentor %s\n", request[0],
-                   mentor_text(matching[request[0]]));
+            const uint8_t student = numbers[matching[numbers[0]] == numbers[1] ? 2 : 0];
+            printf("refused: the two are not together; student %u has mentor %s\n", student,
+                   mentor_text(matching[student]));
         }
         break;
     default:
@@ -92,15 +95,26 @@ static void print_refusal(struct placement_reply reply, const uint8_t *request, 
     }
 }
 
-/* Prints an answer that is no refusal. Whoever has no mentor gains nothing and is not named. */
-static void print_answer(struct placement_reply reply, const uint8_t *old, const uint8_t *new, const int8_t *gains,
-                         size_t n)
+/* The letter of one pair as a word. */
+static const char *word(size_t letter)
+{
+    return letter == 'U' ? "up" : "down";
+}
+
+/* Prints an answer that is no refusal. Of two pairs there are two letters, the second pair's above the first's.
+ * Whoever has no mentor gains nothing and is not named. */
+static void print_answer(struct placement_reply reply, int count, const uint8_t *old, const uint8_t *new,
+                         const int8_t *gains, size_t n)
 {
     if (reply.letter == 'F') {
-        printf("fixed: every stable matching holds the pair\n");
+        printf("fixed: every stable matching holds %s\n", count == 4 ? "at least one of the pairs" : "the pair");
         return;
     }
-    printf("repair %s moves %zu students\n", reply.letter == 'U' ? "up" : "down", reply.value);
+    printf("repair %s", word(reply.letter % 256));
+    if (reply.letter / 256 != 0) {
+        printf(" and %s", word(reply.letter / 256));
+    }
+    printf(" moves %zu students\n", reply.value);
     for (size_t i = 0; i < n; i++) {
         if (gains[i] != 0) {
             printf("student %zu: mentor %u to %u, %+d\n", i, old[i], new[i], gains[i]);
@@ -108,18 +122,39 @@ static void print_answer(struct placement_reply reply, const uint8_t *old, const
     }
 }
 
+/* Asks and prints; gives the status to exit with. */
+static int answer(const uint8_t *input, size_t length, const uint8_t *numbers, int count)
+{
+    uint8_t repaired[PLACEMENT_LARGEST_N];
+    int8_t gains[PLACEMENT_LARGEST_N];
+    size_t book = book_length(input, length);
+    const uint8_t *matching = input + book;
+    struct placement_reply reply =
+        count == 1 ? placement_repair_mentor(input, book, matching, length - book, numbers[0], repaired,
+                                             sizeof repaired, gains, sizeof gains)
+                   : placement_repair(input, book, matching, length - book, numbers, (size_t)count, repaired,
+                                      sizeof repaired, gains, sizeof gains);
+    if (reply.number != PLACEMENT_FINE) {
+        print_refusal(reply, numbers, count, matching);
+        return 1;
+    }
+    print_answer(reply, count, matching, repaired, gains, length - book);
+    return 0;
+}
+
 int main(int argc, char **argv)
 {
     static uint8_t input[LARGEST_INPUT];
-    uint8_t request[2], repaired[PLACEMENT_LARGEST_N];
-    int8_t gains[PLACEMENT_LARGEST_N];
-    if (argc != 3 && argc != 4) {
-        fprintf(stderr, "usage: repair FILE [STUDENT] MENTOR\n");
+    uint8_t numbers[4];
+    const int count = argc - 2;
+    if (count != 1 && count != 2 && count != 4) {
+        fprintf(stderr, "usage: repair FILE MENTOR, or repair FILE STUDENT MENTOR [STUDENT MENTOR]\n");
         return 2;
     }
-    const int by_mentor = argc == 3;
-    if ((!by_mentor && !read_number(argv[2], &request[0])) || !read_number(argv[argc - 1], &request[1])) {
-        return 2;
+    for (int k = 0; k < count; k++) {
+        if (!read_number(argv[2 + k], &numbers[k])) {
+            return 2;
+        }
     }
     FILE *file = fopen(argv[1], "rb");
     if (file == NULL) {
@@ -128,18 +163,5 @@ int main(int argc, char **argv)
     }
     size_t length = fread(input, 1, sizeof input, file);
     fclose(file);
-
-    size_t book = book_length(input, length);
-    const uint8_t *matching = input + book;
-    struct placement_reply reply =
-        by_mentor ? placement_repair_mentor(input, book, matching, length - book, request[1], repaired,
-                                            sizeof repaired, gains, sizeof gains)
-                  : placement_repair(input, book, matching, length - book, request, sizeof request, repaired,
-                                     sizeof repaired, gains, sizeof gains);
-    if (reply.number != PLACEMENT_FINE) {
-        print_refusal(reply, request, by_mentor, matching);
-        return 1;
-    }
-    print_answer(reply, matching, repaired, gains, length - book);
-    return 0;
+    return answer(input, length, numbers, count);
 }
