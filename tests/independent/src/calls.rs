@@ -3,8 +3,9 @@
 
 use crate::book;
 use crate::gale_shapley;
-use crate::instance;
-use crate::matching::{self, ALONE};
+use crate::instance::{self, Instance};
+use crate::matching::{self, Matching, Partners, ALONE};
+use crate::pairs;
 use crate::poset::Poset;
 use crate::repair::{self, Answer, Repairs};
 use crate::reply::{refused, reply, rule, Checked, Reply, NO_GRADE};
@@ -76,7 +77,7 @@ pub fn weighted_repair(
     out: &mut [u8],
     gains: &mut [i8],
 ) -> Reply {
-    answered(book, matching, weights, Asking::Pair(request), out, gains)
+    answered(book, matching, weights, Asking::Pairs(request), out, gains)
 }
 
 pub fn repair_mentor(book: &[u8], matching: &[u8], mentor: u8, out: &mut [u8], gains: &mut [i8]) -> Reply {
@@ -94,28 +95,31 @@ pub fn weighted_repair_mentor(
     answered(book, matching, weights, Asking::Woman(mentor), out, gains)
 }
 
-/// How a pair is asked about: by a request, or by its woman's number.
+/// How a pair is asked about: by a request, which may be for two pairs, or by its woman's number.
 #[derive(Clone, Copy)]
 enum Asking<'a> {
-    Pair(&'a [u8]),
+    Pairs(&'a [u8]),
     Woman(u8),
 }
 
 impl Asking<'_> {
-    /// The man of the pair: 13 for a request, then 11, 12. A woman's man is looked for among the given bytes.
-    fn man(self, n: usize, given: &[u8]) -> Checked<u8> {
+    /// The men of both pairs, of one pair its man twice: 13 for a request, then 11, 12 on each pair in turn. A woman's
+    /// man is looked for among the given bytes.
+    fn men(self, n: usize, given: &[u8]) -> Checked<[u8; 2]> {
         match self {
-            Asking::Pair(request) => {
-                rule(request.len() != 2, 13, 0)?;
-                let (man, woman) = (request[0], request[1]);
-                rule(man as usize >= n || woman as usize >= n, 11, 0)?;
-                rule(given[man as usize] != woman, 12, 0)?;
-                Ok(man)
+            Asking::Pairs(request) => {
+                rule(request.len() != 2 && request.len() != 4, 13, 0)?;
+                for pair in request.chunks(2) {
+                    let (man, woman) = (pair[0], pair[1]);
+                    rule(man as usize >= n || woman as usize >= n, 11, 0)?;
+                    rule(given[man as usize] != woman, 12, 0)?;
+                }
+                Ok([request[0], request[request.len() - 2]])
             }
             Asking::Woman(woman) => {
                 rule(woman as usize >= n, 11, 0)?;
                 let man = given.iter().position(|&other| other == woman);
-                man.map_or(Err(refused(12, 0)), |man| Ok(man as u8))
+                man.map_or(Err(refused(12, 0)), |man| Ok([man as u8; 2]))
             }
         }
     }
@@ -124,7 +128,7 @@ impl Asking<'_> {
 /// The reply of a repair.
 fn answered(book: &[u8], matching: &[u8], weights: &[u8], asking: Asking, out: &mut [u8], gains: &mut [i8]) -> Reply {
     match repaired(book, matching, weights, asking, out, gains) {
-        Ok(answer) => Reply { letter: answer.letter() as usize, ..Reply::value(answer.total()) },
+        Ok(answer) => Reply { letter: answer.letter(), ..Reply::value(answer.total()) },
         Err(refusal) => refusal.into(),
     }
 }
@@ -141,19 +145,28 @@ fn repaired(
     let n = instance.n;
     let matching = matching::stable(&instance, given)?;
     let weights = Weights::read(n, weights)?;
-    let man = asking.man(n, given)?;
+    let men = asking.men(n, given)?;
     rule(out.len() < n || gains.len() < n, 14, 0)?;
-    let poset = Poset::of(&instance);
-    let repairs = Repairs::of(&instance, &poset, &matching, 1 << man);
-    let answer = repairs.answer(man, &weights);
+    let (answer, women) = found(&instance, &matching, men, &weights);
     if answer != Answer::Fixed {
-        out[..n].copy_from_slice(&repairs.matching(&matching, man, answer)[..n]);
+        out[..n].copy_from_slice(&women[..n]);
         for m in 0..n as u8 {
             let rank = |woman| if woman == ALONE { 0 } else { instance.men.rank(m, woman) as i8 };
             gains[m as usize] = rank(given[m as usize]) - rank(out[m as usize]);
         }
     }
     Ok(answer)
+}
+
+/// The answer for the pairs of two men, or for one pair where they are the same, with the repaired matching.
+fn found(instance: &Instance, matching: &Matching, men: [u8; 2], weights: &Weights) -> (Answer, Partners) {
+    let poset = Poset::of(instance);
+    if men[0] != men[1] {
+        return pairs::answer(instance, &poset, matching, men, weights);
+    }
+    let repairs = Repairs::of(instance, &poset, matching, 1 << men[0]);
+    let answer = repairs.answer(men[0], weights);
+    (answer, repairs.matching(matching, men[0], answer))
 }
 
 pub fn grade(book: &[u8], matching: &[u8]) -> Reply {

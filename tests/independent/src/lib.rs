@@ -1,4 +1,4 @@
-//! A second implementation of document 01 (stable placements and their repairs) with W-201 to W-205 of document 02,
+//! A second implementation of document 01 (stable placements and their repairs) with W-201 to W-207 of document 02,
 //! made to be compared with the verified library. It goes by another route: the rotation poset of Gusfield and Irving
 //! (1989), and the repairs of document 000, section 3. Students are called men and mentors women, as in those
 //! sources.
@@ -13,6 +13,7 @@
 //! - `weights`: rule 17, the total weight of a set of men
 //! - `repair`: repairs of one pair or of all pairs of a matching, number of fixed pairs, grade; plain ones are those
 //!   with weights of 1
+//! - `pairs`: repairs of two pairs at one go
 //! - `sheet`: the printed sheet, plain and weighted
 //! - `calls`: the functions of include/placement.h over slices
 //! - `reply`, `groups`, `bits`: the form of the answers, a form of storage, sets as numbers
@@ -26,6 +27,7 @@ pub mod groups;
 pub mod instance;
 pub mod matching;
 pub mod numbering;
+pub mod pairs;
 pub mod poset;
 pub mod random;
 pub mod repair;

@@ -17,27 +17,31 @@ use crate::weights::Weights;
 /// No rotation.
 const NONE: u16 = u16::MAX;
 
-/// A repair, by the total weight of the men whom it moves; or the pair is fixed.
+/// A repair, by the total weight of the men whom it moves; of two pairs with a letter for each. Or what is asked about
+/// is fixed.
 #[derive(Clone, Copy, Debug, PartialEq, Eq)]
 pub enum Answer {
     Up(usize),
     Down(usize),
+    Two([u8; 2], usize),
     Fixed,
 }
 
 impl Answer {
-    pub fn letter(self) -> u8 {
+    /// The letter of the header's reply: of two pairs the first one's and 256 times the second one's.
+    pub fn letter(self) -> usize {
         match self {
-            Answer::Up(_) => b'U',
-            Answer::Down(_) => b'D',
-            Answer::Fixed => b'F',
+            Answer::Up(_) => b'U'.into(),
+            Answer::Down(_) => b'D'.into(),
+            Answer::Two(letters, _) => u16::from_le_bytes(letters).into(),
+            Answer::Fixed => b'F'.into(),
         }
     }
 
-    /// The total weight, 0 where the pair is fixed.
+    /// The total weight, 0 where nothing is repaired.
     pub fn total(self) -> usize {
         match self {
-            Answer::Up(total) | Answer::Down(total) => total,
+            Answer::Up(total) | Answer::Down(total) | Answer::Two(_, total) => total,
             Answer::Fixed => 0,
         }
     }
@@ -130,7 +134,7 @@ impl<'a> Repairs<'a> {
         }
     }
 
-    /// The repaired matching of an answer.
+    /// The repaired matching of an answer for one pair.
     pub fn matching(&self, given: &Matching, man: u8, answer: Answer) -> Partners {
         let mut woman = given.woman;
         let taken = |&r: &usize| self.taken[r] >> man & 1 == 1;
@@ -143,7 +147,7 @@ impl<'a> Repairs<'a> {
                 let inward = (0..self.poset.count()).filter(|&r| !self.inside[r]).filter(taken);
                 inward.for_each(|r| poset::eliminate(self.poset.rotation(r), &mut woman));
             }
-            Answer::Fixed => {}
+            Answer::Two(..) | Answer::Fixed => {}
         }
         woman
     }

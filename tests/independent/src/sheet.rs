@@ -61,7 +61,7 @@ fn write(book: &[u8], given: &[u8], weights: &[u8], sheet: &mut Vec<u8>) -> Chec
             continue;
         };
         number(sheet, given[man] as usize, b' ');
-        sheet.push(answer.letter());
+        sheet.push(answer.letter() as u8);
         sheet.push(b' ');
         number(sheet, answer.total(), b'\n');
     }

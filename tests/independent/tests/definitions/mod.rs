@@ -5,6 +5,7 @@
 
 pub mod book;
 pub mod known;
+pub mod pairs;
 pub mod repairs;
 pub mod rotations;
 
