@@ -1,7 +1,7 @@
 //! Each call on both libraries, with equal inputs and equal result buffers, compared in reply and in every byte of the
 //! buffers and of the guard bytes before and after them. What the archive reports of a repair is recounted from its
-//! gains, and what it writes held against other stable matchings in `between`. The calls for a sheet stand in
-//! `printed`, those by a mentor's number in `by_mentor`.
+//! gains in `recount`, and what it writes held against other stable matchings in `between` and, for two pairs, in
+//! `pairs`. The calls for a sheet stand in `printed`, those by a mentor's number in `by_mentor`.
 
 use crate::tally::{hex, Tally};
 use independent::calls;
@@ -115,25 +115,8 @@ impl Both {
         }
         self.recount(call, inputs, weights, a, gains.signed());
         self.compare_between(call, inputs, a, &mut out);
+        self.compare_two(call, inputs, a, &mut out);
         b
-    }
-
-    /// W-202: a repair up or down reports the total weight of the students whose gains are not 0.
-    fn recount(&mut self, call: &str, inputs: &[&[u8]], weights: &[u8], reply: Reply, gains: &[i8]) {
-        if reply.letter != 'U' as usize && reply.letter != 'D' as usize {
-            return;
-        }
-        let gains = &gains[..gains.len().min(weights.len())];
-        let total = |moved: bool| {
-            let those = gains.iter().zip(weights).filter(|(&gain, _)| (gain != 0) == moved);
-            those.map(|(_, &weight)| weight as usize).sum()
-        };
-        let (moved, left) = (total(true), total(false));
-        self.tally.count_mixed(call, moved, left);
-        if reply.value != moved {
-            let (given, due) = (format!("{reply:?}, gains {gains:?}"), format!("value {moved}, by these gains"));
-            self.tally.differ(&format!("{call}, recount"), inputs, given, due);
-        }
     }
 
     pub fn check_book(&mut self, book: &[u8]) -> Reply {

@@ -3,6 +3,7 @@
 
 use crate::both::Both;
 use crate::by_mentor;
+use crate::pairs;
 use crate::sound::{with, Sound};
 use crate::weights;
 use independent::book;
@@ -88,6 +89,7 @@ pub fn ask_all(both: &mut Both, sound: &Sound, damaged: &[u8], matching: &[u8]) 
     both.weighted_repair(damaged, &[], &[], &[], [0, 0]);
     both.weighted_sheet(&[damaged, matching, &weights].concat(), 1024);
     by_mentor::ask_bad(both, damaged, matching, n);
+    pairs::ask_bad(both, damaged, matching, n);
 }
 
 /// Sheets of input that is cut off or too long; the weighted ones cut off about the matching and the weights too.

@@ -2,6 +2,7 @@
 
 use crate::both::Both;
 use crate::by_mentor;
+use crate::pairs;
 use crate::weights;
 use independent::instance;
 use independent::matching::ALONE;
@@ -44,6 +45,7 @@ impl Sound {
         self.ask_bad_requests(both, &matchings[0]);
         self.ask_bad_weights(both, &matchings[0]);
         self.ask_bad_mentors(both, &matchings[0]);
+        self.ask_bad_pairs(both, &matchings[0]);
         both.beside.clear();
         assert_eq!(self.book, before, "a call has written to the book");
     }
@@ -147,7 +149,7 @@ impl Sound {
     }
 
     /// A stable matching: its set, its grade, its sheet and the repairs of all its pairs, plain and weighted, also by
-    /// the mentors' numbers.
+    /// the mentors' numbers, and of some two of them at one go.
     fn ask_matching(&self, both: &mut Both, matching: &[u8]) {
         both.check_matching(&self.book, matching);
         both.grade(&self.book, matching);
@@ -166,6 +168,7 @@ impl Sound {
         let plain: Vec<Reply> = (0..self.n).map(plain).collect();
         self.ask_weighted(both, matching, &plain);
         self.ask_mentors(both, matching);
+        self.ask_pairs(both, matching, &plain);
     }
 
     /// Matchings that break 8, 9 or 10, alone and with other faults behind them.
@@ -196,6 +199,7 @@ impl Sound {
         both.repair(&self.book, matching, &[0], 0, self.n);
         self.ask_weighted_bad_matching(both, matching);
         by_mentor::ask_bad(both, &self.book, matching, self.n);
+        pairs::ask_bad(both, &self.book, matching, self.n);
     }
 
     /// Requests that break 13, 11, 12 and 14, alone and together.

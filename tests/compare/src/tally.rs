@@ -1,5 +1,6 @@
 //! Counts of what was compared, and the report of differences.
 
+use crate::pairs_tally::PairsTally;
 use crate::sound::Sound;
 use archive::printed::{Kind, Printed, KINDS};
 use independent::reply::Reply;
@@ -33,6 +34,8 @@ pub struct Tally {
     /// Stable matchings beside repairs up, and beside repairs down: all, and those that move students whom the repair
     /// leaves.
     pub beside: [[usize; 2]; 2],
+    /// Requests for two pairs, plain and weighted.
+    pub pairs: [PairsTally; 2],
     /// Sheets of each kind, plain and weighted.
     pub shown: [[usize; KINDS.len()]; 2],
     /// Refusals by number; at 0 the calls that were not refused.
@@ -138,6 +141,7 @@ impl Tally {
         let shown = self.shown().filter(|&(_, _, times)| times == 0);
         let shown = shown.map(|(call, kind, _)| format!("{call} with {}", kind.words()));
         let books = large.chain(short);
+        let pairs = [false, true].into_iter().flat_map(|weighted| self.pairs[weighted as usize].missing(weighted));
         refusals
             .chain(by_mentor)
             .chain(letters)
@@ -147,6 +151,7 @@ impl Tally {
             .chain(mixed)
             .chain(beside)
             .chain(shown)
+            .chain(pairs)
             .collect()
     }
 
@@ -164,6 +169,7 @@ impl Tally {
             println!("stable matchings beside {repairs}: {all}, of which {leaving} move students whom these leave");
         }
         self.shown().for_each(|(call, kind, times)| println!("{call} with {}: {times}", kind.words()));
+        [false, true].iter().for_each(|&weighted| self.pairs[weighted as usize].print(weighted));
         print_refusals("refused", &self.refusals);
         print_refusals("refused by mentor", &self.refusals_by_mentor);
         println!("differences {}", self.differences);
