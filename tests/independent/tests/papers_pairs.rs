@@ -1,5 +1,5 @@
-//! Two pairs at one go (W-207) on Table 1 of document 000, worked out by hand from its Tables 2 and 3; and the order of
-//! the rules on requests of four bytes.
+//! Two pairs at one go (W-207) on Table 1 of document 000, worked out by hand from its Tables 2 and 3; and the order
+//! of the rules on requests of four bytes.
 //!
 //! The matching M5 is 4 5 6 3 1 2 0, its set {0, 1, 2}. Each man's repairs take these rotations out of the set or into
 //! it, which moves these men (see `papers_weights`):
@@ -14,11 +14,11 @@
 //! | 5    | 2            | 0 5      | none          |          |
 //! | 6    | 1, 2         | 0 1 5 6  | 4             | 2 6      |
 //!
-//! UU and DD take out, or in, what both men need, and move all of these men. UD and DU are not empty where nothing that
-//! is taken out precedes what is taken in. Rotation 1 precedes 3, 4 and 5, and rotation 2 precedes 3. It precedes neither
-//! 4 nor 5: 2 3 0 5 1 4 6, of the set {0, 1, 4, 5}, is stable. So to take out 2 alone goes with taking in 4 or 4 and 5,
-//! and nothing else goes together. Man 4 can only end worse off, by 3, and man 5 only better off, by 2: their pairs are
-//! fixed, though neither is so alone.
+//! UU and DD take out, or in, what both men need, and move all of these men. UD and DU are not empty where nothing
+//! that is taken out precedes what is taken in. Rotation 1 precedes 3, 4 and 5, and rotation 2 precedes 3. It precedes
+//! neither 4 nor 5: 2 3 0 5 1 4 6, of the set {0, 1, 4, 5}, is stable. So to take out 2 alone goes with taking in 4, or
+//! 4 and 5, and nothing else goes together. Man 4 can only end worse off, by 3, and man 5 only better off, by 2: their
+//! pairs are fixed, though neither is so alone.
 
 mod definitions;
 

@@ -65,9 +65,18 @@ impl Market {
                 answer = Some((letters, new));
             }
         }
+        self.test_order(SORTS.map(|letters| candidate(letters).map(|(_, new)| moved(&new))));
         let without_both = stable.iter().filter(|m| men.iter().all(|&man| m[man] != given[man]));
         assert_eq!(answer.as_ref().map(|(_, m)| moved(m)), without_both.map(moved).min());
         answer
+    }
+
+    /// Where both UD and DU exist, so do UU and DD, which together weigh no more. So where UD and DU weigh the same and
+    /// nothing weighs less, UU weighs the same too, and no answer turns on the order of UD and DU.
+    fn test_order(&self, totals: [Option<usize>; 4]) {
+        if let [up, Some(up_and_down), Some(down_and_up), down] = totals {
+            assert!(up.unwrap() + down.unwrap() <= up_and_down + down_and_up, "{totals:?}");
+        }
     }
 
     /// The reply, the matching and the gains that are due for the pairs of two men; buffers hold 99 before.
