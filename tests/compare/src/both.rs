@@ -116,6 +116,7 @@ impl Both {
         self.recount(call, inputs, weights, a, gains.signed());
         self.compare_between(call, inputs, a, &mut out);
         self.compare_two(call, inputs, a, &mut out);
+        self.compare_least(call, inputs, weights, a);
         b
     }
 

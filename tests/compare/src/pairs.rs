@@ -1,6 +1,6 @@
 //! Two pairs at one go (W-207): the questions, good ones and ones that break each rule; and what the archive writes,
-//! which has to be stable, to have both students where the letters say, and to lie between the given matching and other
-//! stable ones of the same sort.
+//! which has to be stable, to have both students where the letters say, to lie between the given matching and other
+//! stable ones of the same sort, and to move no more than any stable one without both pairs.
 
 use crate::both::{Both, Lent};
 use crate::pairs_tally::letters;
@@ -51,6 +51,26 @@ impl Both {
                 let inputs = [inputs, &[other]].concat();
                 let due = "for each student a mentor between the given one and the one in the last input";
                 self.tally.differ(call, &inputs, format!("{repaired:?}, student {at}"), due.to_string());
+            }
+        }
+    }
+
+    /// No stable matching without both pairs moves less weight than the archive reports, and there is none where it
+    /// answers with F.
+    pub fn compare_least(&mut self, call: &str, inputs: &[&[u8]], weights: &[u8], reply: Reply) {
+        let (given, request) = (inputs[1], inputs[inputs.len() - 1]);
+        let fixed = reply.letter == 'F' as usize;
+        if !(fixed || letters(reply).is_some()) || request.len() != 4 {
+            return;
+        }
+        let lacks_both = |other: &[u8]| request.chunks(2).all(|pair| other.get(pair[0] as usize) != Some(&pair[1]));
+        for other in self.beside.iter().filter(|other| lacks_both(other)) {
+            let moved = given.iter().zip(other).zip(weights).filter(|((old, new), _)| old != new);
+            let total: usize = moved.map(|(_, &weight)| weight as usize).sum();
+            if fixed || total < reply.value {
+                let inputs = [inputs, &[other]].concat();
+                let due = format!("at most {total}, the last input being without both pairs");
+                self.tally.differ(call, &inputs, format!("{reply:?}"), due);
             }
         }
     }
