@@ -16,7 +16,7 @@ const ASKED: usize = 12;
 
 impl Both {
     /// A request that is not for one pair, with weights or without.
-    fn two(&mut self, book: &[u8], m: &[u8], weights: Option<&[u8]>, request: &[u8], rooms: [usize; 2]) -> Reply {
+    fn two_pairs(&mut self, book: &[u8], m: &[u8], weights: Option<&[u8]>, request: &[u8], rooms: [usize; 2]) -> Reply {
         let reply = match weights {
             None => self.repair(book, m, request, rooms[0], rooms[1]),
             Some(weights) => self.weighted_repair(book, m, weights, request, rooms),
@@ -88,8 +88,8 @@ impl Sound {
             let request = [first as u8, matching[first], second as u8, matching[second]];
             let more = both.random.below(3);
             let rooms = [self.n + more, self.n + 2 - more];
-            let plain = both.two(&self.book, matching, None, &request, rooms);
-            let weighted = both.two(&self.book, matching, Some(&weights), &request, rooms);
+            let plain = both.two_pairs(&self.book, matching, None, &request, rooms);
+            let weighted = both.two_pairs(&self.book, matching, Some(&weights), &request, rooms);
             if first != second {
                 let tally = &mut both.tally.pairs;
                 tally[0].count_fixed(plain, [alone[first], alone[second]]);
@@ -106,10 +106,10 @@ impl Sound {
         for request in self.bad_pairs(both, stable) {
             let short = [[less, n], [n, less], [0, 0]][both.random.below(3)];
             for rooms in [[n, n], short] {
-                both.two(&self.book, stable, None, &request, rooms);
+                both.two_pairs(&self.book, stable, None, &request, rooms);
                 let (right, wrong) = (weights::any(n, &mut both.random), weights::any_length(n, &mut both.random));
-                both.two(&self.book, stable, Some(&right), &request, rooms);
-                both.two(&self.book, stable, Some(&wrong), &request, rooms);
+                both.two_pairs(&self.book, stable, Some(&right), &request, rooms);
+                both.two_pairs(&self.book, stable, Some(&wrong), &request, rooms);
             }
         }
     }
@@ -144,8 +144,8 @@ pub fn ask_bad(both: &mut Both, book: &[u8], matching: &[u8], n: usize) {
     let mentor = |student: usize| matching.get(student).copied().unwrap_or(0);
     let request = [first as u8, mentor(first), second as u8, mentor(second)];
     let weights = weights::any_length(n, &mut both.random);
-    both.two(book, matching, None, &request, [n, n]);
-    both.two(book, matching, None, &[n as u8; 4], [0, n]);
-    both.two(book, matching, Some(&weights), &request, [n, n]);
-    both.two(book, matching, Some(&weights), &[n as u8; 5], [n, 0]);
+    both.two_pairs(book, matching, None, &request, [n, n]);
+    both.two_pairs(book, matching, None, &[n as u8; 4], [0, n]);
+    both.two_pairs(book, matching, Some(&weights), &request, [n, n]);
+    both.two_pairs(book, matching, Some(&weights), &[n as u8; 5], [n, 0]);
 }

@@ -86,6 +86,7 @@ fn weights(n: usize, limit: usize, random: &mut Random) -> Vec<u8> {
     (0..n).map(|_| random.below(limit) as u8).collect()
 }
 
+/// UD and DU move two men at least each way, and nobody both ways, so that they need four.
 #[test]
 fn every_book_of_up_to_three() {
     let (mut met, mut random) = (Met::default(), Random::new(207));
@@ -96,6 +97,7 @@ fn every_book_of_up_to_three() {
         }
     }
     assert!(met.sorts[0] > 1000 && met.sorts[3] > 1000, "{met:?}");
+    assert_eq!(met.sorts[1..3], [0, 0]);
     assert!(met.fixed_together > 1000, "{met:?}");
 }
 
