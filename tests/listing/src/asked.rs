@@ -83,7 +83,7 @@ impl Asked<'_> {
     /// The stretch of a directory pair.
     fn stretch(&self, pair: usize) -> Reply {
         let (offset, length) = book::directory_pair(self.book, pair);
-        Ok(Granted { place: offset, value: length, letter: None })
+        Ok(Granted { place: offset, value: length, ..Granted::default() })
     }
 
     /// The check of a matching.

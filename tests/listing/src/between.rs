@@ -30,7 +30,7 @@ impl Lists {
     }
 
     /// Whether a man is better off in one matching than in the given one, or worse off.
-    fn is_off(&self, side: Side, man: Man, given: &Matching, other: &Matching) -> bool {
+    pub fn is_off(&self, side: Side, man: Man, given: &Matching, other: &Matching) -> bool {
         let (old, new) = (given.woman_of(man), other.woman_of(man));
         match side {
             Side::Up => self.man_prefers(man, new, old),

@@ -4,8 +4,8 @@
 //! go up to 64.
 //!
 //! Document 01's students are men here and its mentors women, as in its source. Quotation marks hold its sentences,
-//! and on weights, short lists, the first line of the sheet, mentors who ask and whom a repair moves those of document
-//! 02's W-201 and W-203 to W-206.
+//! and on weights, short lists, the first line of the sheet, mentors who ask, whom a repair moves and two pairs at one
+//! go those of document 02's W-201 and W-203 to W-207.
 //!
 //! - `people`: a man's number and a woman's
 //! - `reply`: what a call answers, refusals
@@ -18,6 +18,7 @@
 //! - `weights`: rule 17, the total weight of the men whom a matching moves
 //! - `repair`: fixed pairs and their number, repairs up and down, the answer, the grade
 //! - `between`: a repair beside the stable matchings that part the pair on the same side
+//! - `pairs`: the four sorts of two pairs, their candidates, the answer
 //! - `sheet`: the printed sheet, plain and weighted
 //! - `asked`, `repair_calls`: the calls of include/placement.h
 
@@ -26,6 +27,7 @@ pub mod between;
 pub mod book;
 pub mod lists;
 pub mod matching;
+pub mod pairs;
 pub mod people;
 pub mod repair;
 mod repair_calls;

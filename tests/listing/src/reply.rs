@@ -9,11 +9,13 @@ pub struct Refusal {
     pub second: usize,
 }
 
-/// What a reply carries beside the result buffers where nothing is refused; 0 and no letter where a call has none.
+/// What a reply carries beside the result buffers where nothing is refused; 0 and no letter where a call has none. Two
+/// pairs that are repaired have a letter each.
 #[derive(Clone, Copy, Debug, Default, PartialEq, Eq)]
 pub struct Granted {
     pub place: usize,
     pub letter: Option<char>,
+    pub second_letter: Option<char>,
     pub value: usize,
 }
 

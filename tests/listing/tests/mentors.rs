@@ -12,7 +12,7 @@ const TWO_BY_TWO_AND_ONE: &str = "012 102 01 102 012 01";
 
 /// The reply of a repair.
 fn repaired(letter: char, value: usize) -> Reply {
-    Ok(Granted { place: 0, letter: Some(letter), value })
+    Ok(Granted { letter: Some(letter), value, ..Granted::default() })
 }
 
 /// The repair of a mentor's pair where nothing is to be written to buffers of these lengths.

@@ -31,7 +31,7 @@ fn books_as_bytes() {
     assert_eq!(book, [&[2, 2], &directory[..], &[1, 0]].concat());
     let asked = Asked::new(&book);
     assert_eq!(asked.check_book(), granted(2));
-    let stretch = |place, value| Ok(Granted { place, value, letter: None });
+    let stretch = |place, value| Ok(Granted { place, value, ..Granted::default() });
     assert_eq!([asked.student_list(0), asked.student_list(1)], [stretch(18, 1), stretch(19, 0)]);
     assert_eq!([asked.mentor_list(0), asked.mentor_list(1)], [stretch(19, 0), stretch(19, 1)]);
     assert_eq!(Asked::new(&[2, 0]).check_book(), granted(0));
@@ -131,7 +131,7 @@ fn a_rotation_beside_those_who_are_alone() {
     assert_eq!(out, [2, 0, 0, 1, 1]);
     let mut gains = [99; 3];
     let reply = asked.repair(&[0, 1, 255], &[1, 1], &mut out, &mut gains);
-    assert_eq!(reply, Ok(Granted { place: 0, letter: Some('D'), value: 2 }));
+    assert_eq!(reply, Ok(Granted { letter: Some('D'), value: 2, ..Granted::default() }));
     assert_eq!((&out[..3], gains), (&[1, 0, 255][..], [-1, -1, 0]));
 }
 
