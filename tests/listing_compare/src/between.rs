@@ -1,9 +1,10 @@
 //! Nobody is moved in vain (W-206): both repairs of each pair by the definitions, and the matchings that the archive
-//! writes, beside every stable matching that parts the pair on the same side.
+//! writes, beside every stable matching that parts the pair, or both pairs (W-207), on the same side.
 
 use crate::both::Both;
 use crate::calls::Call;
 use crate::lent::Lent;
+use crate::pairs::{is_of_two, sides};
 use archive::{between, Reply};
 use listing::asked::Asked;
 use listing::between::Side;
@@ -51,9 +52,9 @@ impl Both {
         }
     }
 
-    /// What the archive wrote for a pair, where its reply and the one that is due have the letter U, or D, beside every
-    /// stable matching that parts the pair on that side. Gives back the reply that is due. The mentor of the pair is the
-    /// last byte of `asked`, which is a request or her number.
+    /// What the archive wrote for a pair or for two, where its reply and the one that is due have the same letters U or
+    /// D, beside every stable matching that parts each pair on the side of its letter. Gives back the reply that is due.
+    /// The mentors are the last bytes of the pairs of `asked`, which is a request or a mentor's number.
     pub fn compare_between(
         &mut self,
         call: Call,
@@ -63,29 +64,37 @@ impl Both {
         both: [(Reply, Lent<u8>); 2],
     ) -> Reply {
         let [(given, mut out), (due, _)] = both;
-        if given.letter == due.letter && [b'U', b'D'].map(usize::from).contains(&due.letter) {
-            let student = matching.iter().position(|mentor| asked.last() == Some(mentor)).expect("a pair");
-            let repaired = &out.buffer()[..matching.len()];
-            self.compare_beside(call, book, (matching, student), char::from(due.letter as u8), repaired);
+        if given.letter == due.letter && !sides(due.letter).is_empty() {
+            let student = |mentor: &u8| matching.iter().position(|other| other == mentor).expect("a pair");
+            let students = asked.chunks(2).filter_map(<[u8]>::last).map(student);
+            let parted: Vec<(usize, char)> = students.zip(sides(due.letter)).collect();
+            let matchings = (matching, &out.buffer()[..matching.len()]);
+            self.compare_beside(call, book, matchings, &parted, is_of_two(asked));
         }
         due
     }
 
-    /// The same of a student's pair and the matching written.
+    /// The same of the pairs of students, each with the letter of its side, and the matching written. Those by requests
+    /// of two pairs are counted apart.
     fn compare_beside(
         &mut self,
         call: Call,
         book: &Asked,
-        (matching, student): (&[u8], usize),
-        letter: char,
-        repaired: &[u8],
+        (matching, repaired): (&[u8], &[u8]),
+        parted: &[(usize, char)],
+        of_two: bool,
     ) {
         let bytes = book.book();
+        let on_side = |other: &[u8], student, letter| between::side(bytes, matching, other, student) == Some(letter);
         let others = book.listing().stable().iter().map(Matching::bytes);
-        for other in others.filter(|other| between::side(bytes, matching, other, student) == Some(letter)) {
-            self.tally.count_beside(call, between::left(matching, repaired, &other));
+        for other in others.filter(|other| parted.iter().all(|&(student, letter)| on_side(other, student, letter))) {
+            let left = between::left(matching, repaired, &other);
+            match of_two {
+                true => self.tally.pairs.count_beside(call, left),
+                false => self.tally.count_beside(call, left),
+            }
             if let Some(at) = between::outside(bytes, matching, repaired, &other) {
-                let inputs = format!("{bytes:?} {matching:?}, student {student}");
+                let inputs = format!("{bytes:?} {matching:?}, {parted:?}");
                 self.tally
                     .differ(format!("{call:?} {inputs}\n  archive {repaired:?}\n  beside  {other:?} for student {at}"));
             }

@@ -1,7 +1,7 @@
 //! Each call on the archive and on the listing, with equal inputs and equal result buffers, compared in every field
 //! of the reply and in every byte of the buffers and of the guard bytes around them. What the archive reports of a
-//! repair is recounted from its gains, and what it writes held against other stable matchings in `between`. The calls
-//! for a sheet stand in `printed`, those by a mentor's number in `by_mentor`.
+//! repair is recounted from its gains in `recount`, and what it writes held against other stable matchings in
+//! `between`. The calls for a sheet stand in `printed`, those by a mentor's number in `by_mentor`.
 
 use crate::calls::Call;
 use crate::lent::Lent;
@@ -10,11 +10,13 @@ use archive::{Reply, NO_GRADE};
 use listing::asked::{self, Asked};
 use listing::reply::{granted, Refusal};
 
-/// A reply of the listing in the form of the C interface.
+/// A reply of the listing in the form of the C interface: the letter of a second pair counts 256 times.
 fn in_c(reply: listing::reply::Reply) -> Reply {
     match reply {
         Ok(granted) => {
-            let letter = granted.letter.map_or(0, |letter| letter as usize);
+            let [first, second] =
+                [granted.letter, granted.second_letter].map(|letter| letter.map_or(0, |letter| letter as usize));
+            let letter = first + 256 * second;
             Reply { number: 0, place: granted.place, second: 0, letter, value: granted.value }
         }
         Err(r) => Reply { number: r.number, place: r.place, second: r.second, letter: 0, value: 0 },
@@ -95,24 +97,6 @@ impl Both {
         [(given, one), (due, other)]
     }
 
-    /// W-202: a repair up or down reports the total weight of the students whose gains are not 0.
-    fn recount(&mut self, call: Call, inputs: &[&[u8]], weights: &[u8], given: Reply, gains: &[i8]) {
-        if given.letter != 'U' as usize && given.letter != 'D' as usize {
-            return;
-        }
-        let gains = &gains[..gains.len().min(weights.len())];
-        let total = |moved: bool| {
-            let those = gains.iter().zip(weights).filter(|(&gain, _)| (gain != 0) == moved);
-            those.map(|(_, &weight)| weight as usize).sum()
-        };
-        let (moved, left) = (total(true), total(false));
-        self.tally.count_mixed(call, moved, left);
-        if given.value != moved {
-            let report = format!("\n  archive {given:?} {gains:?}\n  due     value {moved}, by these gains");
-            self.tally.differ(format!("{call:?} {inputs:?}, recount{report}"));
-        }
-    }
-
     /// The check of a book.
     pub fn check_book(&mut self, book: &Asked) -> Reply {
         self.replies(Call::CheckBook, &[book.book()], archive::check_book(book.book()), book.check_book())
@@ -163,13 +147,14 @@ impl Both {
         self.lending(Call::MentorBest, &[book.book()], room, archive, |out| book.mentor_best(out));
     }
 
-    /// The repair of a pair, with result buffers of these lengths.
+    /// The repair of a pair or of two, with result buffers of these lengths.
     pub fn repair(&mut self, book: &Asked, matching: &[u8], request: &[u8], room: usize, gains_room: usize) -> Reply {
         let inputs = [book.book(), matching, request];
         let archive = |out: &mut [u8], gains: &mut [i8]| archive::repair(book.book(), matching, request, out, gains);
         let listing = |out: &mut [u8], gains: &mut [i8]| book.repair(matching, request, out, gains);
         let rooms = (room, gains_room);
         let both = self.lending_both(Call::Repair, &inputs, &vec![1; matching.len()], rooms, archive, listing);
+        self.tally.pairs.count(Call::Repair, matching, request, both[1].0);
         self.compare_between(Call::Repair, book, matching, request, both)
     }
 
@@ -213,7 +198,7 @@ impl Both {
         set.buffer()[..due.value].to_vec()
     }
 
-    /// The weighted repair of a pair, with result buffers of these lengths.
+    /// The weighted repair of a pair or of two, with result buffers of these lengths.
     pub fn weighted_repair(
         &mut self,
         book: &Asked,
@@ -228,6 +213,7 @@ impl Both {
         let listing = |out: &mut [u8], gains: &mut [i8]| book.weighted_repair(matching, weights, request, out, gains);
         let inputs = [book.book(), matching, weights, request];
         let both = self.lending_both(Call::WeightedRepair, &inputs, weights, rooms, archive, listing);
+        self.tally.pairs.count(Call::WeightedRepair, matching, request, both[1].0);
         self.compare_between(Call::WeightedRepair, book, matching, request, both)
     }
 
@@ -236,31 +222,5 @@ impl Both {
         let given = archive::weighted_grade(book.book(), matching, weights);
         let due = grade_in_c(book.weighted_grade(matching, weights));
         self.replies(Call::WeightedGrade, &[book.book(), matching, weights], given, due)
-    }
-}
-
-#[cfg(test)]
-mod tests {
-    use super::*;
-
-    /// Recounts a weighted repair: the differences, and whether students are moved and others left.
-    fn recounted(letter: char, value: usize, weights: &[u8], gains: &[i8]) -> (usize, usize) {
-        let mut both = Both::default();
-        let given = Reply { letter: letter as usize, ..Reply::value(value) };
-        both.recount(Call::WeightedRepair, &[], weights, given, gains);
-        (both.tally.differences, both.tally.mixed(Call::WeightedRepair))
-    }
-
-    /// Gains above 0 and below it count, and those past the last student do not. A fixed pair is not recounted.
-    #[test]
-    fn a_recount_of_another_number_differs() {
-        let (weights, gains) = ([3, 0, 250, 7], [1, -2, 0, -1, 5]);
-        assert_eq!(recounted('D', 10, &weights, &gains), (0, 1));
-        for value in [0, 3, 7, 250, 260] {
-            assert_eq!(recounted('D', value, &weights, &gains), (1, 1), "{value}");
-            assert_eq!(recounted('F', value, &weights, &gains), (0, 0), "{value}");
-        }
-        assert_eq!(recounted('U', 2, &[1, 1, 0], &[4, 1, 0]), (0, 0));
-        assert_eq!(recounted('U', 3, &[1, 1, 1], &[4, 1, 0]), (1, 1));
     }
 }

@@ -62,7 +62,9 @@ impl Both {
         self.set_to_matching(&copy, &[2; 20], 0);
         self.matching_to_set(&copy, matching, rotations);
         self.matching_to_set(&copy, &[255, 255, 255], 0);
-        self.repair(&copy, matching, &[0, matching.first().copied().unwrap_or(0)], n, n);
+        let own = matching.first().copied().unwrap_or(0);
+        self.repair(&copy, matching, &[0, own], n, n);
+        self.repair(&copy, matching, &[0, own, 0, own], n, n);
         self.repair(&copy, &[255, 255, 255], &[], 0, 0);
         self.ask_damaged_weighted(&copy, matching);
         self.ask_damaged_by_mentor(&copy, matching);
@@ -75,6 +77,7 @@ impl Both {
         self.weighted_grade(copy, matching, weights);
         self.weighted_grade(copy, &[255, 255, 255], &[0; 9]);
         self.weighted_repair(copy, matching, weights, &[0, own], (n, n));
+        self.weighted_repair(copy, matching, weights, &[0, own, 0, own], (n, n));
         self.weighted_repair(copy, &[255, 255, 255], &[0; 9], &[], (0, 0));
         for room in [200, 0] {
             self.weighted_sheet(&[copy.book(), matching, weights].concat(), room);

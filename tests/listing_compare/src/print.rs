@@ -1,6 +1,7 @@
 //! The counts as they are printed.
 
 use crate::calls::{Call, REPAIRS, RULES};
+use crate::pairs::{Came, ANSWERS};
 use crate::tally::Tally;
 use archive::printed::KINDS;
 use listing::book::Edition;
@@ -28,6 +29,8 @@ pub fn sound(tally: &Tally) {
         println!("students whom {repair} leaves and these move {}", beside.left);
         println!("students whom {repair} moves less far {}", beside.inside);
     }
+    pairs("answers", Call::Repair, tally);
+    println!("stable matchings beside candidates {}", tally.beside_candidates);
     println!("refusals {}", tally.refusals());
     println!("rotations {}", tally.rotations);
     println!("sets {}", tally.sets);
@@ -38,6 +41,8 @@ pub fn sound(tally: &Tally) {
     letters("weighted answers by mentor", tally.weighted_letters_by_mentor);
     println!("weighted totals {}", tally.weighted_totals);
     println!("weighted grades {}", tally.weighted_grades);
+    pairs("weighted answers", Call::WeightedRepair, tally);
+    println!("weighted totals of two pairs {}", tally.weighted_totals_of_two);
     shown("weighted sheets", Call::WeightedSheet, tally);
     println!("differences {}", tally.differences);
 }
@@ -47,6 +52,15 @@ fn letters(words: &str, letters: [usize; 3]) {
     for (letter, times) in ['U', 'D', 'F'].iter().zip(letters) {
         println!("{words} {letter} {times}");
     }
+}
+
+/// How many answers of a call to two pairs have each letters, and to the same pair twice.
+fn pairs(words: &str, call: Call, tally: &Tally) {
+    for (letters, came) in ["UU", "UD", "DU", "DD", "F"].iter().zip(ANSWERS) {
+        println!("{words} to two pairs {letters} {}", tally.pairs.came(call, came));
+    }
+    println!("{words} to the same pair twice {}", tally.pairs.came(call, Came::Twice));
+    println!("{words} to the same fixed pair twice {}", tally.pairs.came(call, Came::TwiceFixed));
 }
 
 /// How many sheets of each kind a call has printed.
@@ -73,7 +87,7 @@ pub fn editions(tally: &Tally) {
 }
 
 /// How often each rule was met in the first two parts, how many repairs moved students and left others, and how many
-/// stable matchings stood beside what the archive wrote.
+/// stable matchings stood beside what the archive wrote, for one pair and for two.
 pub fn rules(tally: &Tally) {
     println!("calls of both parts {}", tally.calls());
     for rule in 1..RULES {
@@ -86,6 +100,12 @@ pub fn rules(tally: &Tally) {
     {
         let [beside, leaving] = tally.written_beside(call);
         println!("{words} that move students and leave others {}", tally.mixed(call));
+        println!("stable matchings beside {words} {beside}");
+        println!("stable matchings beside {words} that move students whom these leave {leaving}");
+    }
+    for (words, call) in ["repairs of two pairs", "weighted repairs of two pairs"].iter().zip(REPAIRS) {
+        let [beside, leaving] = tally.pairs.beside(call);
+        println!("{words} that move students and leave others {}", tally.pairs.mixed(call));
         println!("stable matchings beside {words} {beside}");
         println!("stable matchings beside {words} that move students whom these leave {leaving}");
     }

@@ -85,7 +85,8 @@ impl Both {
         self.sheet(&[book.book(), matching].concat(), SHEET_ROOM);
     }
 
-    /// Asks what is asked of stable matchings alone: the answers for all pairs, also by their mentors, and sets.
+    /// Asks what is asked of stable matchings alone: the answers for all pairs, also by their mentors, and for each two
+    /// pairs, and sets.
     fn ask_stable(&mut self, book: &Asked, stable: &Matching, matching: &[u8], number: usize) {
         self.tally.stable_matchings += 1;
         for man in Man::all(matching.len()) {
@@ -96,6 +97,7 @@ impl Both {
             }
         }
         self.ask_mentors(book, matching);
+        self.ask_pairs(book, stable);
         let mut set = self.matching_to_set(book, matching, ROOM);
         self.ask_set(book, &set);
         if !set.is_empty() {

@@ -26,6 +26,7 @@ impl Both {
                 self.set_to_matching(book, book.runs().set_of(stable), room);
             }
             self.ask_repair_rooms(book, &matching);
+            self.ask_rooms_of_two(book, &matching);
         }
         let best = book.listing().student_best().bytes();
         self.ask_sheet_rooms(&[book.book(), &best].concat());
@@ -49,6 +50,22 @@ impl Both {
                     self.repair_mentor(book, matching, request[1], (room, gains_room));
                     self.weighted_repair_mentor(book, matching, &WEIGHTS[..n], request[1], (room, gains_room));
                 }
+            }
+        }
+    }
+
+    /// Asks for the repair of two pairs, those of the first and of the last student who has a mentor, plain and weighted,
+    /// with buffers from none to an entry more than is needed each; where there is one pair alone, for it twice.
+    fn ask_rooms_of_two(&mut self, book: &Asked, matching: &[u8]) {
+        let n = matching.len();
+        let mut placed = (0..n).filter(|&student| usize::from(matching[student]) < n);
+        let Some(first) = placed.next() else { return };
+        let last = placed.last().unwrap_or(first);
+        let request = [first as u8, matching[first], last as u8, matching[last]];
+        for room in 0..=n + 1 {
+            for gains_room in 0..=n + 1 {
+                self.repair(book, matching, &request, room, gains_room);
+                self.weighted_repair(book, matching, &WEIGHTS[..n], &request, (room, gains_room));
             }
         }
     }

@@ -57,6 +57,7 @@ impl Both {
         self.matching_to_set(book, string, 0);
         self.repair(book, string, &[0, 0], n, n);
         self.repair(book, string, &[0], 0, 0);
+        self.repair(book, string, &[0, 0, 1, 1], n, n);
         self.repair_mentor(book, string, 0, (n, n));
         self.repair_mentor(book, string, 255, (0, 0));
         if book.stable_matching(string).is_err() {
@@ -73,6 +74,7 @@ impl Both {
             self.weighted_grade(book, string, weights);
             self.weighted_repair(book, string, weights, &[0, 0], (n, n));
             self.weighted_repair(book, string, weights, &[0], (0, 0));
+            self.weighted_repair(book, string, weights, &[0, 0, 1, 1], (n, n));
             self.weighted_repair_mentor(book, string, weights, 0, (n, n));
             self.weighted_repair_mentor(book, string, weights, 255, (0, 0));
             if book.stable_matching(string).is_err() {

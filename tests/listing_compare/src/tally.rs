@@ -2,6 +2,7 @@
 
 use crate::between::Beside;
 use crate::calls::{prints, refused_by, shows, Call, COUNT, REPAIRS, RULES};
+use crate::pairs::Pairs;
 use archive::printed::{Kind, Printed, KINDS};
 use archive::Reply;
 use listing::book::Edition;
@@ -58,6 +59,11 @@ pub struct Tally {
     /// For each call how many stable matchings stood beside what the archive wrote, and how many of these moved
     /// students whom it left.
     written_beside: [[usize; 2]; COUNT],
+    /// What came of requests for two pairs, the sum of their totals with weights, and the stable matchings of a sort
+    /// beside its candidate by the definitions.
+    pub pairs: Pairs,
+    pub weighted_totals_of_two: usize,
+    pub beside_candidates: usize,
     pub differences: usize,
 }
 
@@ -146,14 +152,16 @@ impl Tally {
         for (beside, more) in self.written_beside.iter_mut().flatten().zip(other.written_beside.iter().flatten()) {
             *beside += more;
         }
+        self.pairs.add(&other.pairs);
         self.differences += other.differences;
     }
 
-    /// For books of an edition: the calls that never gave a result or were never refused by a rule that they have,
+    /// For books of an edition: the calls that never, but for two pairs, gave a result or met a rule that they have,
     /// the refusals and the kinds of sheets that they never printed, and the calls for a repair that never moved
-    /// students and left others, or never left one whom a stable matching on its side moves.
+    /// students and left others, or never left one whom a stable matching on its side moves; the same of two pairs.
     pub fn missing(&self, edition: Edition) -> Vec<String> {
-        let unmet = refused_by(edition).filter(|&(call, rule)| self.met[call as usize][rule] == 0);
+        let unmet =
+            refused_by(edition).filter(|&(call, rule)| self.met[call as usize][rule] <= self.pairs.met(call, rule));
         let unprinted = prints(edition).filter(|&(call, rule)| self.printed[call as usize][rule] == 0);
         let unshown = shows(edition).filter(|&(call, kind)| self.shown(call, kind) == 0);
         let unmixed = REPAIRS.into_iter().filter(|&call| self.mixed(call) == 0);
@@ -163,7 +171,7 @@ impl Tally {
         let unmixed = unmixed.map(|call| format!("{call:?} that moves students and leaves others"));
         let moving = REPAIRS.into_iter().filter(|&call| self.written_beside(call)[1] == 0);
         let moving = moving.map(|call| format!("{call:?} that leaves a student whom a stable matching moves"));
-        unmet.chain(unprinted).chain(unshown).chain(unmixed).chain(moving).collect()
+        unmet.chain(unprinted).chain(unshown).chain(unmixed).chain(moving).chain(self.pairs.missing(edition)).collect()
     }
 
     /// Counts a difference and prints it if it is one of the first; ends the program when there are many.
@@ -186,8 +194,9 @@ mod tests {
     /// A tally in which every call has met each of its rules, every refusal and every kind of sheet was printed, and
     /// repairs have moved students and left others, also such as another stable matching moves.
     fn complete() -> Tally {
-        let (met, printed, shown) = ([[1; RULES]; COUNT], [[1; RULES]; COUNT], [[1; KINDS.len()]; COUNT]);
-        Tally { met, printed, shown, mixed: [1; COUNT], written_beside: [[1; 2]; COUNT], ..Tally::default() }
+        let (met, printed, shown) = ([[2; RULES]; COUNT], [[1; RULES]; COUNT], [[1; KINDS.len()]; COUNT]);
+        let (mixed, written_beside, pairs) = ([1; COUNT], [[1; 2]; COUNT], Pairs::complete());
+        Tally { met, printed, shown, mixed, written_beside, pairs, ..Tally::default() }
     }
 
     /// What was never met is missed, and nothing else.
@@ -195,7 +204,7 @@ mod tests {
     fn what_was_never_met_is_missing() {
         assert!(complete().missing(Edition::Two).is_empty());
         let mut tally = complete();
-        tally.met[Call::Repair as usize][12] = 0;
+        tally.met[Call::Repair as usize][12] = 1;
         assert_eq!(tally.missing(Edition::One), ["Repair by rule 12"]);
         tally.printed[Call::WeightedSheet as usize][17] = 0;
         assert_eq!(tally.missing(Edition::One)[1..], ["WeightedSheet that prints the refusal by rule 17"]);

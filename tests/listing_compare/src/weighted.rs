@@ -1,5 +1,5 @@
 //! What is asked of stable matchings with weights in the first part: the answers for all pairs, also by their mentors,
-//! the grade and the sheet. Result buffers are long enough.
+//! and for each two pairs, the grade and the sheet. Result buffers are long enough.
 
 use crate::both::Both;
 use crate::draw::Draw;
@@ -22,14 +22,19 @@ fn numbered(n: usize, k: usize) -> Vec<u8> {
 impl Both {
     /// Asks every stable matching of a book for n up to 3 with all weights 0, 1 and 2. A book of n = 3 with one stable
     /// matching, in which every pair is fixed whatever anybody weighs, is asked with one of the 27 tables, by its
-    /// number: each of these 34,080 books meets one table, and each table more than a thousand of them.
+    /// number: each of these 34,080 books meets one table, and each table more than a thousand of them. Each two pairs
+    /// are asked for with nine tables of n = 3, again by the number of the book.
     pub fn ask_all_weights(&mut self, n: usize, book: &Asked, number: usize) {
         let tables = 3usize.pow(n as u32);
         let stable = book.listing().stable();
         for table in 0..tables {
             if n < 3 || stable.len() > 1 || table == number % tables {
                 for matching in stable {
-                    self.ask_weighted(book, matching, &numbered(n, table));
+                    let weights = numbered(n, table);
+                    self.ask_weighted(book, matching, &weights);
+                    if n < 3 || table % 3 == number % 3 {
+                        self.ask_weighted_pairs(book, matching, &weights);
+                    }
                 }
             }
         }
@@ -40,6 +45,7 @@ impl Both {
         for end in [256, 3] {
             let weights: Vec<u8> = (0..n).map(|_| draw.below(end) as u8).collect();
             self.ask_weighted(book, stable, &weights);
+            self.ask_weighted_pairs(book, stable, &weights);
         }
     }
 

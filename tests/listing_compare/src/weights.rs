@@ -23,12 +23,18 @@ impl Both {
         }
     }
 
-    /// Asks with these weights, with a request and buffers that are right, and with ones that break 13, 11, 12 or 14.
+    /// Asks with these weights, with a request for one pair or two and buffers that are right, and with ones that break
+    /// 13, 11, 12 or 14.
     fn ask_weights_of(&mut self, book: &Asked, matching: &[u8], weights: &[u8]) {
         let n = matching.len();
         self.weighted_grade(book, matching, weights);
         let own = matching.first().copied().unwrap_or(0);
-        for request in [&[0, own][..], &[], &[0, own, 0], &[n as u8, own], &[0, own ^ 1]] {
+        let last = n.saturating_sub(1) as u8;
+        let other = matching.last().copied().unwrap_or(0);
+        let one: [&[u8]; 5] = [&[0, own], &[], &[0, own, 0], &[n as u8, own], &[0, own ^ 1]];
+        let two: [&[u8]; 4] =
+            [&[0, own, last, other], &[0, own, n as u8, own], &[0, own, last, own ^ 1], &[0, own, last, other, 0]];
+        for request in one.into_iter().chain(two) {
             for rooms in [(n, n), (0, n), (n, 0)] {
                 self.weighted_repair(book, matching, weights, request, rooms);
             }
