@@ -1,9 +1,9 @@
 #!/usr/bin/env python3
 """The counts of the first part of tests/listing_compare, from document 01's definitions over all matchings and, for
-weights, short lists, sheets without a grade, mentors who ask and whom a repair moves, from W-201 and W-203 to W-206 of
-document 02.
+weights, short lists, sheets without a grade, mentors who ask, whom a repair moves and two pairs, from W-201 and W-203
+to W-207 of document 02.
 
-    tests/make_listing_counts.py            prints them, in three quarters of a minute
+    tests/make_listing_counts.py            prints them, in a minute and a quarter
     tests/make_listing_counts.py --check    says whether tests/listing_compare/expected begins with them
 
 The books and what is asked of them are those of tests/listing_compare; no code is taken from there or from
@@ -18,6 +18,8 @@ import sys
 sys.dont_write_bytecode = True
 from counts.book import NOBODY, Book, answer, grade
 from counts.drawn import KINDS, WAYS, Drawn, permutation
+from counts.pairs import Pairs
+from counts.words import BESIDE, SHORT_WORDS, SHOWN, WORDS
 
 
 class Counts(collections.Counter):
@@ -60,6 +62,9 @@ class Counts(collections.Counter):
                 self["answers " + answers[s][0]] += 1
                 self["refusals"] += 1  # the student with the mentor after his own
         self["mentors alone"] += self.mentors("answers by mentor ", m, answers)
+        pairs = Pairs(book, m)
+        self.pairs("answers", pairs, answers, ones)
+        self["stable matchings beside candidates"] += pairs.beside_candidates()
         self.sheet("sheets", book.n, answers, ones)
         eliminated = book.runs()[m]
         marks = [int(rotation in eliminated) for rotation in rotations]
@@ -78,10 +83,12 @@ class Counts(collections.Counter):
                     self[words[1]] += old == new != far
                     self[words[2]] += old != new != far
 
-    def weighted(self, book, m, tables):
-        """A stable matching with each of some tables of weights."""
+    def weighted(self, book, m, tables, asks_for_two=lambda number: True):
+        """A stable matching with each of some tables of weights by number, and with which of these each two pairs are
+        asked for."""
         moved = {s: book.moved(m, s) for s in range(book.n) if m[s] != NOBODY}
-        for weights in tables:
+        pairs = Pairs(book, m)
+        for number, weights in tables.items():
             self["weighted matchings"] += 1
             self["refusals"] += book.n - len(moved)  # each student who is alone, with mentor 0
             answers = {s: answer(*moved[s], weights) for s in moved}
@@ -89,8 +96,25 @@ class Counts(collections.Counter):
                 self["weighted answers " + letter] += 1
                 self["weighted totals"] += total
             self.mentors("weighted answers by mentor ", m, answers)
+            if asks_for_two(number):
+                self["weighted totals of two pairs"] += self.pairs("weighted answers", pairs, answers, weights)
             self["weighted grades"] += grade(answers, weights) or 0
             self.sheet("weighted sheets", book.n, answers, weights)
+
+    def pairs(self, word, pairs, answers, weights):
+        """Each two pairs in each order, and each pair twice; the reply is the sum of the totals."""
+        totals = 0
+        for a, b in itertools.product(pairs.placed, repeat=2):
+            if a == b:
+                fixed = "fixed " if answers[a][0] == "F" else ""
+                self[f"{word} to the same {fixed}pair twice"] += 1
+                totals += answers[a][1]
+            else:
+                letters, total = pairs.answer(a, b, weights)
+                assert total == pairs.least(a, b, weights)
+                self[f"{word} to two pairs {letters}"] += 1
+                totals += total
+        return totals
 
     def mentors(self, word, m, answers):
         """Every mentor's number, n and 255, of which no mentor has the last two; the reply is how many are alone."""
@@ -120,22 +144,26 @@ class Counts(collections.Counter):
 def count_small(counts):
     """Every book for n up to 3 with every matching, and for n up to 2 with some bytes that are none; every stable
     matching with all weights 0, 1 and 2, but with one table where n = 3 and it is the only one, all pairs being fixed.
+    With one in nine tables of n = 3, by the number of the book, each two pairs are asked for.
     """
     for n in range(4):
-        tables = list(itertools.product([0, 1, 2], repeat=n))
-        lists = list(itertools.permutations(range(n)))
-        for both in itertools.product(lists, repeat=2 * n):
-            book = Book(both[:n], both[n:])
+        lists = [permutation(n, number) for number in range(math.factorial(n))]
+        for number in range(len(lists) ** (2 * n)):
+            rows = [lists[number // len(lists) ** k % len(lists)] for k in range(2 * n)]
+            book = Book(rows[:n], rows[n:])
             rotations, before = counts.book(book)
-            for number in range(math.factorial(n)):
-                m = permutation(n, number)
+            for choice in range(math.factorial(n)):
+                m = permutation(n, choice)
                 if m in book.all_stable:
-                    counts.stable(book, m, number, rotations, before)
+                    counts.stable(book, m, choice, rotations, before)
                 else:
                     counts.refused()
             counts.refused([1, 3, 4, 0][n])
+            tables = {k: tuple(k // 3**s % 3 for s in range(n)) for k in range(3**n)}
+            if n == 3 and len(book.all_stable) == 1:
+                tables = {number % 27: tables[number % 27]}
             for m in book.all_stable:
-                counts.weighted(book, m, tables[:1] if n == 3 and len(book.all_stable) == 1 else tables)
+                counts.weighted(book, m, tables, lambda k, n=n, number=number: n < 3 or k % 9 == number % 9)
 
 
 def count_matchings(counts, book, others, drawn_weights):
@@ -144,7 +172,7 @@ def count_matchings(counts, book, others, drawn_weights):
     rotations, before = counts.book(book)
     for number, m in enumerate(book.all_stable):
         counts.stable(book, m, number, rotations, before)
-        counts.weighted(book, m, [[drawn_weights.draw() % end for _ in range(book.n)] for end in (256, 3)])
+        counts.weighted(book, m, {end: [drawn_weights.draw() % end for _ in range(book.n)] for end in (256, 3)})
     for m in others:
         if m not in book.all_stable:
             counts.refused()
@@ -175,7 +203,7 @@ def count_small_short(counts):
             for m in itertools.product([*range(n), NOBODY], repeat=n):
                 if m in book.all_stable:
                     counts.stable(book, m, 0, rotations, before)
-                    counts.weighted(book, m, itertools.product([0, 1, 2], repeat=n))
+                    counts.weighted(book, m, dict(enumerate(itertools.product([0, 1, 2], repeat=n))))
                 else:
                     counts.refused()
 
@@ -187,24 +215,6 @@ def count_drawn_short(counts):
         for way, kind in itertools.product(WAYS * books, KINDS):
             book = Book(*drawn.short_lists(kind, way, n), short=True)
             count_matchings(counts, book, [drawn.some_placed(n) for _ in range(3)], drawn_weights)
-
-
-SHOWN = ["no grade and a fixed pair", "no grade and no pair", "a grade and a fixed pair"]
-SHOWN += ["a fixed pair and a student without a mentor", "the grade 0 and a repair of distance 1"]
-SHORT_WORDS = ["books refused as one-sided", "books with rotations", "books with somebody alone on each side"]
-SHORT_WORDS += ["books with both", "students alone", "mentors alone"]
-SHORT_WORDS += ["searches that a mentor who is alone ends before a willing one"]
-BESIDE = [
-    [f"stable matchings beside {r}", f"students whom {r} leaves and these move", f"students whom {r} moves less far"]
-    for r in ("repair up", "repair down")
-]
-WORDS = ["books", "matchings", "stable matchings", "answers U", "answers D", "answers F"]
-WORDS += [f"answers by mentor {letter}" for letter in "UDF"]
-WORDS += [word for beside in BESIDE for word in beside]
-WORDS += ["refusals", "rotations", "sets", "sheets"] + [f"sheets with {kind}" for kind in SHOWN]
-WORDS += ["weighted matchings", "weighted answers U", "weighted answers D", "weighted answers F"]
-WORDS += [f"weighted answers by mentor {letter}" for letter in "UDF"]
-WORDS += ["weighted totals", "weighted grades"] + [f"weighted sheets with {kind}" for kind in SHOWN]
 
 
 def lines(counts, words):

@@ -74,25 +74,22 @@ impl Editions<'_> {
         }
     }
 
-    /// Asks a matching; of a stable one the repairs of all pairs and of each two, also by each mentor's number and by n,
-    /// and the set, of another one of each.
+    /// Asks a matching; of a stable one the repairs of all pairs, also by each mentor's number and by n, of each two
+    /// pairs without weights, and the set, of another one of each.
     fn ask_matching(&mut self, matching: &[u8]) {
         let weights = &WEIGHTS[..self.n];
         let (reply, _) = self.alike(Call::CheckMatching, |book, _, _| archive::check_matching(book, matching));
-        for man in 0..if reply.number == 0 { self.n } else { self.n.min(1) } {
+        let students = if reply.number == 0 { self.n } else { self.n.min(1) };
+        for man in 0..students {
             let request = [man as u8, matching[man]];
             self.alike(Call::Repair, |book, out, gains| archive::repair(book, matching, &request, out, gains));
             self.alike(Call::WeightedRepair, |book, out, gains| {
                 archive::weighted_repair(book, matching, weights, &request, out, gains)
             });
         }
-        let students = if reply.number == 0 { self.n } else { self.n.min(1) };
         for (first, second) in (0..students * students).map(|both| (both / students, both % students)) {
             let request = [first as u8, matching[first], second as u8, matching[second]];
             self.alike(Call::Repair, |book, out, gains| archive::repair(book, matching, &request, out, gains));
-            self.alike(Call::WeightedRepair, |book, out, gains| {
-                archive::weighted_repair(book, matching, weights, &request, out, gains)
-            });
         }
         for mentor in 0..=if reply.number == 0 { self.n as u8 } else { 0 } {
             self.alike(Call::RepairMentor, |book, out, gains| {

@@ -23,7 +23,7 @@ impl Both {
     /// Asks every stable matching of a book for n up to 3 with all weights 0, 1 and 2. A book of n = 3 with one stable
     /// matching, in which every pair is fixed whatever anybody weighs, is asked with one of the 27 tables, by its
     /// number: each of these 34,080 books meets one table, and each table more than a thousand of them. Each two pairs
-    /// are asked for with nine tables of n = 3, again by the number of the book.
+    /// are asked for with one in nine tables of n = 3, again by the number of the book.
     pub fn ask_all_weights(&mut self, n: usize, book: &Asked, number: usize) {
         let tables = 3usize.pow(n as u32);
         let stable = book.listing().stable();
@@ -32,7 +32,7 @@ impl Both {
                 for matching in stable {
                     let weights = numbered(n, table);
                     self.ask_weighted(book, matching, &weights);
-                    if n < 3 || table % 3 == number % 3 {
+                    if n < 3 || table % 9 == number % 9 {
                         self.ask_weighted_pairs(book, matching, &weights);
                     }
                 }
