@@ -79,20 +79,22 @@ fn pairs_of_matching_5() {
 }
 
 /// The answer for each two pairs of M5 against the eleven stable matchings: F where none lacks both pairs; else none
-/// that does moves fewer. Each sort has a candidate where one of these is of the sort; whomever the candidate moves each
-/// of the sort moves, and so it moves no more.
+/// that does moves fewer. Each sort has a candidate where one of these is of the sort; whomever the candidate moves
+/// each of the sort moves, and so it moves no more and weighs no more.
 #[test]
 fn pairs_of_matching_5_against_all_stable_matchings() {
     let asked = Asked::new(table_1());
     let (listing, given) = (asked.listing(), matching_5());
     assert_eq!(listing.stable().len(), 11);
-    let ones = Weights::read(7, &[1; 7]).expect("seven weights");
+    let [ones, weights] = [&[1; 7], &[10, 20, 200, 40, 5, 30, 50]].map(|table| Weights::read(7, table).expect("seven"));
     for [first, second] in Man::all(7).flat_map(|first| Man::all(7).map(move |second| [first, second])) {
         let lacks = |x: &Matching, man| x.woman_of(man) != given.woman_of(man);
         let lacking: Vec<&Matching> = listing.stable().iter().filter(|x| lacks(x, first) && lacks(x, second)).collect();
         let answer = listing.answer_for_two(&given, [first, second], ones);
         assert_eq!(answer == PairsAnswer::Fixed, lacking.is_empty());
         assert_eq!(answer.total(), lacking.iter().map(|x| x.distance(&given)).min().unwrap_or(0));
+        let total = listing.answer_for_two(&given, [first, second], weights).total();
+        assert_eq!(total, lacking.iter().map(|x| weights.of_moved(x, &given)).min().unwrap_or(0));
         let mut of_a_sort = 0;
         for sort in SORTS {
             let those = listing.of_sort(sort, &given, [first, second]);
@@ -106,6 +108,7 @@ fn pairs_of_matching_5_against_all_stable_matchings() {
                 assert!(lacking.contains(&x) && listing.each_between(&given, candidate, x));
                 assert!(candidate.moved(&given).all(|man| moved.contains(&man)));
                 assert!(candidate.distance(&given) <= x.distance(&given));
+                assert!(weights.of_moved(candidate, &given) <= weights.of_moved(x, &given));
             }
         }
         assert_eq!(of_a_sort, lacking.len());
@@ -122,8 +125,8 @@ fn a_candidate_of_matching_5() {
     assert_eq!(asked_for(table_1(), &MATCHING_5, &[1; 7], &[4, 5]), due);
 }
 
-/// The pairs of 0 and 6: UU moves students 0, 1, 5 and 6, UD 0, 2, 5 and 6, DD 0, 2, 4 and 6. Ties go to UU, then UD or,
-/// in the other order, DU, then DD.
+/// The pairs of 0 and 6: UU moves students 0, 1, 5 and 6, UD 0, 2, 5 and 6, DD 0, 2, 4 and 6. Ties go to UU, then UD
+/// or, in the other order, DU, then DD.
 #[test]
 fn weights_choose_the_sort() {
     let sorts =

@@ -53,8 +53,8 @@ impl Both {
     }
 
     /// What the archive wrote for a pair or for two, where its reply and the one that is due have the same letters U or
-    /// D, beside every stable matching that parts each pair on the side of its letter. Gives back the reply that is due.
-    /// The mentors are the last bytes of the pairs of `asked`, which is a request or a mentor's number.
+    /// D, beside every stable matching that parts each pair on the side of its letter. Gives back the reply that is
+    /// due. The mentors are the last bytes of the pairs of `asked`, which is a request or a mentor's number.
     pub fn compare_between(
         &mut self,
         call: Call,

@@ -54,7 +54,7 @@ fn letters(words: &str, letters: [usize; 3]) {
     }
 }
 
-/// How many answers of a call to two pairs have each letters, and to the same pair twice.
+/// How many answers of a call to two pairs have which letters, and how many are to the same pair twice.
 fn pairs(words: &str, call: Call, tally: &Tally) {
     for (letters, came) in ["UU", "UD", "DU", "DD", "F"].iter().zip(ANSWERS) {
         println!("{words} to two pairs {letters} {}", tally.pairs.came(call, came));

@@ -54,8 +54,9 @@ impl Both {
         }
     }
 
-    /// Asks for the repair of two pairs, those of the first and of the last student who has a mentor, plain and weighted,
-    /// with buffers from none to an entry more than is needed each; where there is one pair alone, for it twice.
+    /// Asks for the repair of two pairs, those of the first and of the last student who has a mentor, plain and
+    /// weighted, with buffers from none to an entry more than is needed each; where there is one pair alone, for it
+    /// twice.
     fn ask_rooms_of_two(&mut self, book: &Asked, matching: &[u8]) {
         let n = matching.len();
         let mut placed = (0..n).filter(|&student| usize::from(matching[student]) < n);

@@ -36,18 +36,16 @@ impl Both {
         }
     }
 
-    /// W-206 of the candidate of each sort, by the definitions: whoever it moves is moved by every stable matching of the
-    /// sort, and so it moves no more.
+    /// W-206 of the candidate of each sort, by the definitions: whoever it moves is moved by every stable matching of
+    /// the sort, and so it moves no more, and weighs no more.
     fn ask_candidates(&mut self, book: &Asked, given: &Matching, men: [Man; 2]) {
         let listing = book.listing();
         for sort in SORTS {
             let Some(candidate) = listing.candidate(sort, given, men) else { continue };
             for other in listing.of_sort(sort, given, men) {
                 let moved: Vec<Man> = other.moved(given).collect();
-                self.expect(
-                    candidate.moved(given).all(|man| moved.contains(&man)),
-                    "whoever a candidate moves is moved",
-                );
+                let in_vain = candidate.moved(given).any(|man| !moved.contains(&man));
+                self.expect(!in_vain, "whoever a candidate moves is moved");
                 self.tally.beside_candidates += 1;
             }
         }
