@@ -4,16 +4,17 @@ use replies::Reply;
 use replies::answer_reply;
 use replies::count_reply;
 use replies::grade_reply;
+use replies::request_reply;
 ghost use mathlib.Core.Path.{_≡_};
 ghost use lib.ListN.{length};
 ghost use Rattle.laws.specs.Moment.{now₀, now₁};
-ghost use Rattle.repairs.specs.Repair.{weightedReply, weightedMatching, weightedGains};
+ghost use Rattle.repairs.specs.Pairs.{weightedRequestReply, weightedRequestMatching, weightedRequestGains};
 ghost use Rattle.repairs.specs.Mentor.{weightedMentorReply, weightedMentorMatching, weightedMentorGains};
 ghost use Rattle.repairs.specs.Grade.{weightedGrade};
 ghost use Rattle.sheets.specs.Reply.{weightedSheetReply, weightedSheetBuffer};
-ghost use Rattle.replies.specs.Replies.{numberReply, gradedReply, letterReply};
+ghost use Rattle.replies.specs.Replies.{numberReply, gradedReply, letterReply, requestLetters};
 
-// The repair of one pair, with its matching and the places gained.
+// The repair of one pair, or of two at one go, with its matching and the places gained.
 #[no_mangle]
 pub extern "C" fn placement_weighted_repair(
     book: &[u8],
@@ -23,15 +24,15 @@ pub extern "C" fn placement_weighted_repair(
     out: &mut [u8],
     gains: &mut [i8],
 ) -> Reply
-    ensures answer { λ r. ⌜ r ≡ letterReply (weightedReply (now₀ book) (now₀ matching) (now₀ weights) (now₀ request) (now₀ out)
+    ensures answer { λ r. ⌜ r ≡ requestLetters (weightedRequestReply (now₀ book) (now₀ matching) (now₀ weights) (now₀ request) (now₀ out)
         (now₀ gains)) ⌝ }
-    ensures bytes { λ _. ⌜ now₁ out ≡ weightedMatching (now₀ book) (now₀ matching) (now₀ weights) (now₀ request) (now₀ out)
+    ensures bytes { λ _. ⌜ now₁ out ≡ weightedRequestMatching (now₀ book) (now₀ matching) (now₀ weights) (now₀ request) (now₀ out)
         (now₀ gains) ⌝ }
-    ensures places { λ _. ⌜ now₁ gains ≡ weightedGains (now₀ book) (now₀ matching) (now₀ weights) (now₀ request) (now₀ out)
+    ensures places { λ _. ⌜ now₁ gains ≡ weightedRequestGains (now₀ book) (now₀ matching) (now₀ weights) (now₀ request) (now₀ out)
         (now₀ gains) ⌝ }
 {
     let answer = repair::weighted_repair(book, matching, weights, request, out, gains);
-    answer_reply(answer)
+    request_reply(answer)
 }
 
 // The repair of a mentor's pair, who gives her number: the answer to the request that names her student and her.

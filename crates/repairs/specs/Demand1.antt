@@ -16,8 +16,11 @@ use Rattle.matchings.specs.Matching.{checkMatching, womanOf}
 use Rattle.matchings.specs.Laws.Entries.{nobody-most}
 use Rattle.matchings.specs.Laws.StableCheck.{fine-stable}
 use Rattle.repairs.specs.Laws.Request.{pair-11, pair-12}
-use Rattle.repairs.specs.Request.{checkRequest, checkWeightedRequest}
+use Rattle.repairs.specs.Laws.PairsRequest.{either-held}
+use Rattle.repairs.specs.Request.{forTwo, forOne, checkRequest, checkWeightedRequest, checkPairsRequest, checkWeightedPairs}
 use Rattle.repairs.specs.Repair.{repairMatching, repairGains, weightedMatching, weightedGains}
+use Rattle.repairs.specs.Pairs.{requestReply, requestMatching, requestGains}
+use Rattle.repairs.specs.Pairs.{weightedRequestReply, weightedRequestMatching, weightedRequestGains}
 use Rattle.repairs.specs.Mentor.{requestOf, checkAsking, checkWeightedAsking, mentorReply, mentorMatching, mentorGains}
 use Rattle.repairs.specs.Mentor.{weightedMentorReply, weightedMentorMatching, weightedMentorGains}
 
@@ -34,6 +37,24 @@ pub weighted-refused-unchanged :
     checkWeightedRequest b m k q (length out) (length gains) ≡ refused number place second →
     (weightedMatching b m k q out gains ≡ out) × (weightedGains b m k q out gains ≡ gains)
 weighted-refused-unchanged b m k q out gains e = (sym (filled-refused e _ _ out), sym (filled-refused e _ _ gains))
+
+-- Whatever a request is for: where the reply is a refusal
+pub request-refused-unchanged :
+    (b m q out : List ℕ) (gains : List ℤ) {number place second : ℕ} → requestReply b m q out gains ≡ refusal number place second →
+    (requestMatching b m q out gains ≡ out) × (requestGains b m q out gains ≡ gains)
+request-refused-unchanged b m q out gains e =
+    let v = checkPairsRequest b m q (length out) (length gains) in
+    let u = checkRequest b m (forOne q) (length out) (length gains) in
+    (either-held (forTwo q) v u _ _ e _ _ _ _ out, either-held (forTwo q) v u _ _ e _ _ _ _ gains)
+
+-- The same with weights
+pub weighted-request-refused-unchanged :
+    (b m k q out : List ℕ) (gains : List ℤ) {number place second : ℕ} → weightedRequestReply b m k q out gains ≡ refusal number place second →
+    (weightedRequestMatching b m k q out gains ≡ out) × (weightedRequestGains b m k q out gains ≡ gains)
+weighted-request-refused-unchanged b m k q out gains e =
+    let v = checkWeightedPairs b m k q (length out) (length gains) in
+    let u = checkWeightedRequest b m k (forOne q) (length out) (length gains) in
+    (either-held (forTwo q) v u _ _ e _ _ _ _ out, either-held (forTwo q) v u _ _ e _ _ _ _ gains)
 
 -- The same where a mentor asks: her number is refused, or the request for her pair
 pub mentor-refused-unchanged :

@@ -9,6 +9,10 @@ pub mod Request
 pub mod Demand3
 pub mod OneRepair
 pub mod BetweenBytes
+pub mod PairsRequest
+pub mod PairsBytes
+pub mod PairsReply
+pub mod PairsDemand
 pub mod FixedBytes
 pub mod GradeBytes
 pub mod GradeBound

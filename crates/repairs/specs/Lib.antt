@@ -8,9 +8,11 @@ pub mod Pairs
 pub mod Grade
 pub mod Promise
 pub mod Between
+pub mod PairsPromise
 pub mod Demand1
 pub mod Demand3
 pub mod WeightedDemand3
 pub mod MentorDemand
 pub mod BetweenDemand
+pub mod PairsDemand
 pub mod Laws

@@ -1,11 +1,13 @@
 -- The reply of every call: 0 and the result, or the number of the broken rule with its places. Assumes nothing.
-use Prim.Native.Nat.{ℕ}
-use mathlib.Core.Path.{_≡_, _∙_, ap}
+use Prim.Native.Nat.{ℕ, _+_, _*_}
+use mathlib.Core.Path.{_≡_, refl, _∙_, ap}
 use mathlib.Core.Bool.{Bool}
 use Rattle.laws.specs.Choice.{pick}
 use Rattle.format.specs.Verdict.{Verdict, refused}
-use Rattle.format.specs.Outcome.{Outcome, gives, refusal, after}
+use Rattle.format.specs.Outcome.{Outcome, gives, refusal, after, told}
+use Rattle.stable_theory.specs.Repairs.Sides.{Side, upward, downward}
 use Rattle.repairs.specs.Repair.{RepairAnswer, up, down, fixed}
+use Rattle.repairs.specs.Pairs.{PairsRepair, ends, bothFixed, RequestAnswer, one, two}
 use Rattle.repairs.specs.Grade.{GradeAnswer, graded, allFixed}
 use Rattle.replies.specs.declared.reply.Reply.{Reply}
 
@@ -54,6 +56,39 @@ letterFor fixed = lettered 70 0
 
 abbrev pub letterReply : Outcome RepairAnswer → Reply
 letterReply answer = replyBy letterFor answer
+
+-- A repair of two pairs: both letters in one number, the first in its low byte, and the distance
+abbrev pub twoLetters : ℕ → ℕ → ℕ
+twoLetters first second = first + 256 * second
+
+-- The letter of a side: 'U' or 'D'
+abbrev pub letterOn : Side → ℕ
+letterOn upward = 85
+letterOn downward = 68
+
+abbrev pub lettersFor : PairsRepair → Reply
+lettersFor (ends x y distance) = lettered (twoLetters (letterOn x) (letterOn y)) distance
+lettersFor bothFixed = lettered 70 0
+
+abbrev pub pairsReply : Outcome PairsRepair → Reply
+pairsReply answer = replyBy lettersFor answer
+
+-- The reply to a request: for one pair, or for two
+abbrev pub requestFor : RequestAnswer → Reply
+requestFor (one answer) = letterFor answer
+requestFor (two answer) = lettersFor answer
+
+abbrev pub requestLetters : Outcome RequestAnswer → Reply
+requestLetters answer = replyBy requestFor answer
+
+-- so the reply for a pair is that of the pair, and that for two theirs
+pub letters-one : (answer : Outcome RepairAnswer) → requestLetters (told one answer) ≡ letterReply answer
+letters-one (gives value) = refl
+letters-one (refusal number place second) = refl
+
+pub letters-two : (answer : Outcome PairsRepair) → requestLetters (told two answer) ≡ pairsReply answer
+letters-two (gives value) = refl
+letters-two (refusal number place second) = refl
 
 -- The reply for a verdict: where nothing is refused, a place and a value
 abbrev pub replyFor : Verdict → ℕ → ℕ → Reply

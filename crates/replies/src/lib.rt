@@ -6,5 +6,6 @@ pub use replies::answer_reply;
 pub use replies::count_reply;
 pub use replies::grade_reply;
 pub use replies::precedence_reply;
+pub use replies::request_reply;
 pub use replies::verdict_reply;
 pub use reply::Reply;

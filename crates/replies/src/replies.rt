@@ -7,15 +7,19 @@ use format::Refusal;
 use repairs::Answer;
 use repairs::Grade;
 use repairs::Graded;
+use repairs::PairsAnswer;
+use repairs::RequestAnswer;
 use rotations::Precedence;
 ghost use mathlib.Core.Path.{_≡_};
 ghost use Rattle.format.specs.Outcome.{countOutcome};
 ghost use Rattle.format.specs.Verdict.{verdictOf};
 ghost use Rattle.repairs.specs.Grade.{gradeAnswer, gradeOutcome};
 ghost use Rattle.repairs.specs.Repair.{repairOutcome};
+ghost use Rattle.repairs.specs.Pairs.{pairsOutcome, requestOutcome};
 ghost use Rattle.rotations.specs.Precedence.{precedenceOutcome};
 ghost use Rattle.replies.specs.Replies.{granted, denied, lettered, replyFor};
 ghost use Rattle.replies.specs.Replies.{numberReply, gradeValue, gradedReply, yesNoReply, letterReply};
+ghost use Rattle.replies.specs.Replies.{twoLetters, pairsReply, requestLetters};
 
 // Nothing is refused.
 fn granted_reply(place: usize, value: usize) -> Reply
@@ -62,6 +66,30 @@ pub fn answer_reply(answer: Answer) -> Reply
         Answer::Down(repair) => letter_reply(b'D', repair.distance),
         Answer::Fixed => letter_reply(b'F', 0),
         Answer::Refused(refusal) => denied_reply(refusal),
+    }
+}
+
+// The reply for a repair of two pairs: both letters and the distance.
+fn pairs_reply(answer: PairsAnswer) -> Reply
+    ensures { λ r. ⌜ r ≡ pairsReply (pairsOutcome answer) ⌝ }
+{
+    match answer {
+        PairsAnswer::UpUp(repair) => letters_reply(b'U', b'U', repair.distance),
+        PairsAnswer::UpDown(repair) => letters_reply(b'U', b'D', repair.distance),
+        PairsAnswer::DownUp(repair) => letters_reply(b'D', b'U', repair.distance),
+        PairsAnswer::DownDown(repair) => letters_reply(b'D', b'D', repair.distance),
+        PairsAnswer::Fixed => letter_reply(b'F', 0),
+        PairsAnswer::Refused(refusal) => denied_reply(refusal),
+    }
+}
+
+// The reply to a request, for one pair or for two.
+pub fn request_reply(answer: RequestAnswer) -> Reply
+    ensures { λ r. ⌜ r ≡ requestLetters (requestOutcome answer) ⌝ }
+{
+    match answer {
+        RequestAnswer::Pair(one) => answer_reply(one),
+        RequestAnswer::Pairs(two) => pairs_reply(two),
     }
 }
 
@@ -115,6 +143,21 @@ fn letter_reply(letter: u8, distance: usize) -> Reply
         place: 0,
         second: 0,
         letter: rows::wide(letter),
+        value: distance,
+    }
+}
+
+// Two letters, the first in the low byte, and a distance.
+fn letters_reply(first: u8, second: u8, distance: usize) -> Reply
+    ensures { λ r. ⌜ r ≡ lettered (twoLetters first second) distance ⌝ }
+{
+    let low = rows::wide(first);
+    let high = rows::wide(second);
+    Reply {
+        number: 0,
+        place: 0,
+        second: 0,
+        letter: low + 256 * high,
         value: distance,
     }
 }

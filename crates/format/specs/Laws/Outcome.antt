@@ -8,7 +8,7 @@ use lib.Dec.{ltb}
 use borrow.Author.Tests.{lt-ltb, le-ltb, ltb-false}
 use Rattle.format.specs.Verdict.{Verdict, fine, refused, broken, rule, andThen}
 use Rattle.format.specs.Laws.Verdict.{stays, goes-on, rule-fine}
-use Rattle.format.specs.Outcome.{Outcome, gives, refusal, after, orRefused, checkRoom, filled, orHeld}
+use Rattle.format.specs.Outcome.{Outcome, gives, refusal, after, told, orRefused, checkRoom, filled, orHeld}
 
 -- equal answers give equal values
 pub gives-same : {A : Type 0} {x y : A} → gives x ≡ gives y → x ≡ y
@@ -61,6 +61,13 @@ pub refusal-held :
 refusal-held fine fine x e n result out = cc
 refusal-held fine (refused a b c) x e n result out = refl
 refusal-held (refused a b c) u x e n result out = refl
+
+-- A refusal after a check leaves the buffer as it was, whatever case of a type the value is
+pub refused-held :
+    {A B C : Type 0} (case : A → B) (v : Verdict) (x : A) {number place second : ℕ} → told case (after v x) ≡ refusal number place second →
+    (n : ℕ) (result out : List C) → filled v n result out ≡ out
+refused-held case fine x e n result out = cc
+refused-held case (refused a b c) x e n result out = refl
 
 module _ (needed room : ℕ) where
   -- rule 14 where the buffer is too short

@@ -32,11 +32,8 @@ use Rattle.repairs.specs.Between.{PartsOn, RepairOn, answerOn}
 use Rattle.repairs.specs.Between.{Between, rising, falling, EachBetween, MovesToo}
 
 -- between, in the words of the theory
-between-min : {x y z : ℕ} → min x z ≤ y → y ≤ x → Between x y z
-between-min {x} {y} {z} h l = split z x (λ k. falling (omega arith) (omega arith)) (λ k. rising (omega arith) (omega arith))
-
-between-max : {x y z : ℕ} → x ≤ y → y ≤ max x z → Between x y z
-between-max {x} {y} {z} l h = split x z (λ k. rising (omega arith) (omega arith)) (λ k. falling (omega arith) (omega arith))
+pub between-of : {x y z : ℕ} → min x z ≤ y → y ≤ max x z → Between x y z
+between-of {x} {y} {z} h l = split z x (λ k. falling (omega arith) (omega arith)) (λ k. rising (omega arith) (omega arith))
 
 -- between a place and itself there is no other
 between-same : {x y z : ℕ} → Between x y z → z ≡ x → y ≡ x
@@ -45,7 +42,7 @@ between-same (falling l h) e = omega arith
 
 module _ {b m r k : List ℕ} (S : StableIn b m) (R : StableIn b r) (K : MatchingIn b k) where
   -- places of vectors that lie between are those of mentors on the lists; who is alone in m is alone in r
-  each-between : ((i : ℕ) → i < people b → Between (vectorOf b m i) (vectorOf b r i) (vectorOf b k i)) → EachBetween b m r k
+  pub each-between : ((i : ℕ) → i < people b → Between (vectorOf b m i) (vectorOf b r i) (vectorOf b k i)) → EachBetween b m r k
   each-between B =
       record {
         placed = λ i Q.
@@ -58,7 +55,7 @@ module _ {b m r k : List ℕ} (S : StableIn b m) (R : StableIn b r) (K : Matchin
       }
 
   -- so whoever is moved by r is moved by k
-  between-moves : EachBetween b m r k → MovesToo b m r k
+  pub between-moves : EachBetween b m r k → MovesToo b m r k
   between-moves B i u ne e = by (S .matching .entries i u)
     where
       by : EntryOf b m i → ⊥
@@ -86,7 +83,7 @@ module _ {b m : List ℕ} (S : StableIn b m) {s : ℕ} (P : PairIn b m s) (side 
       (record { stable = K .stable; without = λ e. ends-apart side (K .ends) (ap (manRank b s) e) })
 
   -- in vectors too the asking student is better off, or worse off
-  ends-vector : EndsOn side (vectorOf b k s) (vectorOf b m s)
+  pub ends-vector : EndsOn side (vectorOf b k s) (vectorOf b m s)
   ends-vector = rw (place-rank (other .matching) (P .student), place-rank (S .matching) (P .student)) (K .ends)
 
 -- a stable matching without the pair parts it on one side
@@ -132,11 +129,11 @@ module _ {b m : List ℕ} (S : StableIn b m) {s : ℕ} (P : PairIn b m s) where
     places-between upward K R i u =
         let U = at-up (repair-vector S (P .student) r R) in
         let h = between-up proper vector (holds S P) (parted S P upward K) U (ends-vector S P upward K) i u in
-        between-min (h .0) (h .1)
+        between-of (h .0) (omega (arith, h .1))
     places-between downward K R i u =
         let D = at-down (repair-vector S (P .student) r R) in
         let h = between-down proper vector (holds S P) (parted S P downward K) D (ends-vector S P downward K) i u in
-        between-max (h .0) (h .1)
+        between-of (omega (arith, h .0)) (h .1)
 
     module _ (side : Side) {k : List ℕ} (K : PartsOn side b m s k) (R : RepairOn side b m s r) where
       -- so do its mentors on the lists, and whoever it moves is moved by k

@@ -39,7 +39,7 @@ gain-zero {b} {m} {r} A B {i} u =
 
 module _ {b m : List ℕ} (S : StableIn b m) where
   -- entries that are old place less new are the places gained, where r is stable: who is alone in m is alone in r
-  gained : {r : List ℕ} {gains : List ℤ} → StableIn b r → ((i : ℕ) → i < people b → getD gains i (pos 0) ≡ less (manRank b i (womanOf m i)) (manRank b i (womanOf r i))) → Gained b m r gains
+  pub gained : {r : List ℕ} {gains : List ℤ} → StableIn b r → ((i : ℕ) → i < people b → getD gains i (pos 0) ≡ less (manRank b i (womanOf m i)) (manRank b i (womanOf r i))) → Gained b m r gains
   gained {r} {gains} R e =
       record {
         is = e;

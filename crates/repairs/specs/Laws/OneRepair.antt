@@ -21,7 +21,7 @@ use Rattle.repairs.specs.Laws.Demand3.{fixed-iff, takes, reply-given}
 use Rattle.repairs.specs.Promise.{PairIn, pairOf, written, InEvery, Repaired, RepairUp, RepairDown, Takes, takes-up, takes-down}
 
 -- matchings in which each student's mentor has the same place are the same bytes
-same-places : {b r q : List ℕ} → MatchingIn b r → MatchingIn b q → ((i : ℕ) → i < people b → manRank b i (womanOf r i) ≡ manRank b i (womanOf q i)) → r ≡ q
+pub same-places : {b r q : List ℕ} → MatchingIn b r → MatchingIn b q → ((i : ℕ) → i < people b → manRank b i (womanOf r i) ≡ manRank b i (womanOf q i)) → r ≡ q
 same-places {b} {r} {q} A B e =
     entries-same r q (A .long ∙ sym (B .long))
     (λ i (u : i < length r).
