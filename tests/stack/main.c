@@ -2,7 +2,8 @@
  * filled with a pattern before, and the deepest byte that has changed is looked for afterwards. What is printed for
  * each n is the most of all inputs of that n, each as it is and with a book that is refused at its last byte; a book of
  * edition 1 is measured as one of edition 2 too, which has the same bytes but the first. A repair is asked for every
- * pair, by its request and by its mentor. Exits with 1 if a call needs more than the header says.
+ * pair, by its request and by its mentor, and for it and the next student's at one go. Exits with 1 if a call needs more
+ * than the header says.
  *
  *     stack FILE...       files with a book and a stable matching after it; weights are added here */
 #define _XOPEN_SOURCE 700 /* makecontext */
@@ -42,6 +43,10 @@ static void nothing(void)
 #define REQUEST (const uint8_t[2]){(uint8_t)student, matching[student]}, 2
 #define RESULTS out, sizeof out, gains, sizeof gains
 
+/* The next student, and the request of four bytes for both. */
+#define NEXT (matching_len == 0 ? 0 : (student + 1) % matching_len)
+#define TWO_PAIRS (const uint8_t[4]){(uint8_t)student, matching[student], (uint8_t)NEXT, matching[NEXT]}, 4
+
 CALL(check_book, input, book_len)
 CALL(book_size, matching_len)
 CALL(write_book, matching_len, input + 2 + 8 * matching_len, book_len - 2 - 8 * matching_len, out, sizeof out)
@@ -64,6 +69,16 @@ CALL(weighted_repair_mentor, PLACED, weights, matching_len, matching[student], R
 CALL(weighted_grade, PLACED, weights, matching_len)
 CALL(weighted_sheet, input, book_len + 2 * matching_len, out, sizeof out)
 
+static void repair_two(void)
+{
+    reply = placement_repair(PLACED, TWO_PAIRS, RESULTS);
+}
+
+static void weighted_repair_two(void)
+{
+    reply = placement_weighted_repair(PLACED, weights, matching_len, TWO_PAIRS, RESULTS);
+}
+
 /* The calls, what the header says that each needs, and the most that was measured for each n. */
 static struct {
     const char *name;
@@ -80,6 +95,7 @@ static struct {
     {"student_best", student_best, PLACEMENT_STACK_MATCHINGS, {0}},
     {"mentor_best", mentor_best, PLACEMENT_STACK_MATCHINGS, {0}},
     {"repair", repair, PLACEMENT_STACK_MATCHINGS, {0}},
+    {"repair, two pairs", repair_two, PLACEMENT_STACK_MATCHINGS, {0}},
     {"repair_mentor", repair_mentor, PLACEMENT_STACK_MATCHINGS, {0}},
     {"grade", grade, PLACEMENT_STACK_MATCHINGS, {0}},
     {"rotation_count", rotation_count, PLACEMENT_STACK_MATCHINGS, {0}},
@@ -89,6 +105,7 @@ static struct {
     {"matching_to_set", matching_to_set, PLACEMENT_STACK_ROTATIONS, {0}},
     {"sheet", sheet, PLACEMENT_STACK_MATCHINGS, {0}},
     {"weighted_repair", weighted_repair, PLACEMENT_STACK_MATCHINGS, {0}},
+    {"weighted, two pairs", weighted_repair_two, PLACEMENT_STACK_MATCHINGS, {0}},
     {"weighted_repair_mentor", weighted_repair_mentor, PLACEMENT_STACK_MATCHINGS, {0}},
     {"weighted_grade", weighted_grade, PLACEMENT_STACK_MATCHINGS, {0}},
     {"weighted_sheet", weighted_sheet, PLACEMENT_STACK_MATCHINGS, {0}},

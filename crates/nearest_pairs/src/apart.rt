@@ -58,8 +58,9 @@ fn beside(
     places
 }
 
-// The candidate in which the repair up and the repair down that two pushes found are both made; man t is the one who ends
-// worse off. There is none where a push found no repair, where the repair up moves t, or where the places are not stable.
+// The candidate in which the repair up and the repair down that two pushes found are both made; man t is the one who
+// ends worse off. There is none where a push found no repair, where the repair up moves t, or where the places are not
+// stable.
 pub(crate) fn apart(
     n: usize,
     partial: bool,

@@ -8,7 +8,7 @@ use native.Mathlib.Omega.{arith}
 use lib.ListN.{length}
 use lib.IntN.{ℤ}
 use Rattle.format.specs.Verdict.{fine, refused, broken}
-use Rattle.format.specs.Laws.Verdict.{goes-on}
+use Rattle.format.specs.Laws.Verdict.{goes-on, stays}
 use Rattle.format.specs.Format.{people, nobody, pairRow}
 use Rattle.format.specs.Outcome.{refusal}
 use Rattle.format.specs.Laws.Outcome.{filled-refused, refusal-held}
@@ -17,7 +17,7 @@ use Rattle.matchings.specs.Laws.Entries.{nobody-most}
 use Rattle.matchings.specs.Laws.StableCheck.{fine-stable}
 use Rattle.repairs.specs.Laws.Request.{pair-11, pair-12}
 use Rattle.repairs.specs.Laws.PairsRequest.{either-held}
-use Rattle.repairs.specs.Request.{forTwo, forOne, checkRequest, checkWeightedRequest, checkPairsRequest, checkWeightedPairs}
+use Rattle.repairs.specs.Request.{forTwo, forOne, checkTogether, checkPair, checkPairs, checkRequest, checkWeightedRequest, checkPairsRequest, checkWeightedPairs}
 use Rattle.repairs.specs.Repair.{repairMatching, repairGains, weightedMatching, weightedGains}
 use Rattle.repairs.specs.Pairs.{requestReply, requestMatching, requestGains}
 use Rattle.repairs.specs.Pairs.{weightedRequestReply, weightedRequestMatching, weightedRequestGains}
@@ -56,7 +56,22 @@ weighted-request-refused-unchanged b m k q out gains e =
     let u = checkWeightedRequest b m k (forOne q) (length out) (length gains) in
     (either-held (forTwo q) v u _ _ e _ _ _ _ out, either-held (forTwo q) v u _ _ e _ _ _ _ gains)
 
--- The same where a mentor asks: her number is refused, or the request for her pair
+-- Of two pairs, student s with mentor w and student t with mentor v, the first is tried first: where 11 or 12 refuses
+-- it that is the verdict, whatever the second is
+pub first-pair-first :
+    (n : ℕ) (m : List ℕ) (s w t v room gainsRoom : ℕ) {number place second : ℕ} → checkTogether n m s w ≡ refused number place second →
+    checkPairs n m s w t v room gainsRoom ≡ refused number place second
+unfolding checkPairs
+first-pair-first n m s w t v room gainsRoom e = stays (checkTogether n m s w) _ e ∙ e
+
+-- and where it does not, the rules of the second are, 14 last
+pub second-pair-next :
+    (n : ℕ) (m : List ℕ) (s w t v room gainsRoom : ℕ) → checkTogether n m s w ≡ fine →
+    checkPairs n m s w t v room gainsRoom ≡ checkPair n m t v room gainsRoom
+unfolding checkPairs
+second-pair-next n m s w t v room gainsRoom e = goes-on (checkTogether n m s w) _ e
+
+-- A refusal of a mentor who asks, by her number or of the request for her pair, leaves both buffers too
 pub mentor-refused-unchanged :
     (b m : List ℕ) (w : ℕ) (out : List ℕ) (gains : List ℤ) {number place second : ℕ} →
     mentorReply b m w out gains ≡ refusal number place second →

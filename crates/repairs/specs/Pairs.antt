@@ -1,6 +1,6 @@
 -- Repair of two pairs at one go (W-207): the answer, the reply, and what the two result buffers hold afterwards; and
--- the same of any request, which is for one pair or for two. b is the book, m the given matching, q the request, c i the
--- weight of student i; where students are counted it is 1. Assumes nothing.
+-- the same of any request, which is for one pair or for two. b is the book, m the given matching, q the request, c i
+-- the weight of student i; where students are counted it is 1. Assumes nothing.
 use Prim.Native.Nat.{ℕ}
 use mathlib.Core.List.{List, []}
 use lib.ListN.{length}

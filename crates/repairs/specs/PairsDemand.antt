@@ -1,7 +1,7 @@
 -- W-207, two pairs at one go, whole, of the definitions that the contracts cite, over every well formed book of either
 -- edition, every stable matching, every two pairs of it and every table of n weights: the candidate of each of the four
--- sorts, the answer, that no stable matching without both pairs moves fewer or weighs less, and the same pair twice. The
--- words are those of PairsPromise.antt. Assumes nothing.
+-- sorts, the answer, that no stable matching without both pairs moves fewer or weighs less, and the same pair twice.
+-- The words are those of PairsPromise.antt. Assumes nothing.
 use Prim.Native.Nat.{ℕ, _≤_}
 use mathlib.Core.Path.{_≡_}
 use mathlib.Core.List.{List, _++_}
@@ -54,8 +54,8 @@ module _ (b m : List ℕ) (s t : ℕ) (stable : checkMatching b m ≡ fine) (fir
       (c : ℕ → ℕ) (r q : List ℕ) (x y : Outcome RequestAnswer) → TakesOf b c m s t r x → TakesOf b c m s t q y → (r ≡ q) × (x ≡ y)
   taken-one c r q x y = one-taken (inside b m stable) first second c
 
-  -- W-206 for each sort: whoever is moved by the candidate is moved by every stable matching of the sort, so that none of
-  -- the sort weighs less, by any weights
+  -- W-206 for each sort: whoever is moved by the candidate is moved by every stable matching of the sort, so that none
+  -- of the sort weighs less, by any weights
   module _ (x y : Side) (r : List ℕ) (candidate : CandidateOf x y b m s t r) (k : List ℕ) (sort : OfSort x y b m s t k) where
     pub sort-between : EachBetween b m r k
     sort-between = candidate .between k sort
@@ -67,44 +67,53 @@ module _ (b m : List ℕ) (s t : ℕ) (stable : checkMatching b m ≡ fine) (fir
     sort-lightest c = moves-weight b c m r k sort-moves
 
 -- Two pairs asked for together, and lent buffers that are long enough
-module _ (b m : List ℕ) (s t : ℕ) (out : List ℕ) (gains : List ℤ) (stable : checkMatching b m ≡ fine) (first : PairIn b m s) (second : PairIn b m t)
-    (apart : s ≡ t → ⊥) (room : people b ≤ length out) (gains-room : people b ≤ length gains) where
+module _ (b m : List ℕ) (s t : ℕ) (out : List ℕ) (gains : List ℤ)
+    (stable : checkMatching b m ≡ fine) (first : PairIn b m s) (second : PairIn b m t) (apart : s ≡ t → ⊥)
+    (room : people b ≤ length out) (gains-room : people b ≤ length gains) where
+  -- the request, and the matching that is written
+  abbrev request : List ℕ
+  request = pairsOf m s t
+
+  abbrev repaired : List ℕ
+  repaired = written b (requestMatching b m request out gains)
+
   -- the answer is 'fixed' exactly when no stable matching lacks both pairs
-  pub fixed-exactly : requestReply b m (pairsOf m s t) out gains ≡ gives (two bothFixed) ↔ NoneLacksBoth b m s t
+  pub fixed-exactly : requestReply b m request out gains ≡ gives (two bothFixed) ↔ NoneLacksBoth b m s t
   fixed-exactly = both-fixed b (λ i. 1) m s t stable first second apart (both-fine b m s t stable first second room gains-room) _
 
   -- otherwise it is the candidate with fewest moved, ties in the order UU, UD, DU, DD, with its distance; and no stable
   -- matching without both pairs moves fewer
   pub candidate-taken :
       (NoneLacksBoth b m s t → ⊥) →
-      TakesOf b (λ i. 1) m s t (written b (requestMatching b m (pairsOf m s t) out gains)) (requestReply b m (pairsOf m s t) out gains)
-      × LightestOf b (λ i. 1) m s t (written b (requestMatching b m (pairsOf m s t) out gains))
-  candidate-taken = both-taken b (λ i. 1) m s t stable first second apart (both-fine b m s t stable first second room gains-room) _ out _
+      TakesOf b (λ i. 1) m s t repaired (requestReply b m request out gains) × LightestOf b (λ i. 1) m s t repaired
+  candidate-taken =
+      both-taken b (λ i. 1) m s t stable first second apart (both-fine b m s t stable first second room gains-room) _ out _
 
   -- and the places gained are written: 0 exactly for unmoved students
-  pub places-gained :
-      (NoneLacksBoth b m s t → ⊥) →
-      Gained b m (written b (requestMatching b m (pairsOf m s t) out gains)) (requestGains b m (pairsOf m s t) out gains)
-  places-gained = both-gained b (λ i. 1) m s t stable first second apart (both-fine b m s t stable first second room gains-room) out _ gains _
+  pub places-gained : (NoneLacksBoth b m s t → ⊥) → Gained b m repaired (requestGains b m request out gains)
+  places-gained =
+      both-gained b (λ i. 1) m s t stable first second apart (both-fine b m s t stable first second room gains-room) out _ gains _
 
   -- The same with a byte for each student as weights w: the total weight of those moved in place of their number
   module _ (w : List ℕ) (all : length w ≡ people b) where
-    pub weighted-fixed-exactly : weightedRequestReply b m w (pairsOf m s t) out gains ≡ gives (two bothFixed) ↔ NoneLacksBoth b m s t
+    abbrev repairedByWeight : List ℕ
+    repairedByWeight = written b (weightedRequestMatching b m w request out gains)
+
+    pub weighted-fixed-exactly : weightedRequestReply b m w request out gains ≡ gives (two bothFixed) ↔ NoneLacksBoth b m s t
     weighted-fixed-exactly =
         both-fixed b (weightOf w) m s t stable first second apart
         (both-fine b m s t (weighed-fine b m w stable all) first second room gains-room) _
 
     pub weighted-candidate-taken :
         (NoneLacksBoth b m s t → ⊥) →
-        TakesOf b (weightOf w) m s t (written b (weightedRequestMatching b m w (pairsOf m s t) out gains)) (weightedRequestReply b m w (pairsOf m s t) out gains)
-        × LightestOf b (weightOf w) m s t (written b (weightedRequestMatching b m w (pairsOf m s t) out gains))
+        TakesOf b (weightOf w) m s t repairedByWeight (weightedRequestReply b m w request out gains)
+        × LightestOf b (weightOf w) m s t repairedByWeight
     weighted-candidate-taken =
         both-taken b (weightOf w) m s t stable first second apart
         (both-fine b m s t (weighed-fine b m w stable all) first second room gains-room) _ out _
 
     pub weighted-places-gained :
-        (NoneLacksBoth b m s t → ⊥) →
-        Gained b m (written b (weightedRequestMatching b m w (pairsOf m s t) out gains)) (weightedRequestGains b m w (pairsOf m s t) out gains)
+        (NoneLacksBoth b m s t → ⊥) → Gained b m repairedByWeight (weightedRequestGains b m w request out gains)
     weighted-places-gained =
         both-gained b (weightOf w) m s t stable first second apart
         (both-fine b m s t (weighed-fine b m w stable all) first second room gains-room) out _ gains _

@@ -1,6 +1,6 @@
--- The words of W-207, beside those of Promise.antt and Between.antt: b is a book of either edition, m the given matching,
--- s and t are the students of two pairs of it, c i is the weight of student i, and k any stable matching. Assumes
--- nothing.
+-- The words of W-207, beside those of Promise.antt and Between.antt: b is a book of either edition, m the given
+-- matching, s and t are the students of two pairs of it, c i is the weight of student i, and k any stable matching.
+-- Assumes nothing.
 use Prim.Native.Nat.{ℕ, _≤_}
 use mathlib.Core.Path.{_≡_}
 use mathlib.Core.List.{List, _++_}
@@ -40,8 +40,8 @@ pub record CandidateOf (x y : Side) (b m : List ℕ) (s t : ℕ) (r : List ℕ) 
   pub sort : OfSort x y b m s t r
   pub between : (k : List ℕ) → OfSort x y b m s t k → EachBetween b m r k
 
--- r is the candidate that W-207 takes, with its reply: of the candidates of all sorts none has moved students that weigh
--- less, and none of those that weigh as much is of a sort before it in the order UU, UD, DU, DD
+-- r is the candidate that W-207 takes, with its reply: of the candidates of all sorts none has moved students that
+-- weigh less, and none of those that weigh as much is of a sort before it in the order UU, UD, DU, DD
 pub data TakesOf (b : List ℕ) (c : ℕ → ℕ) (m : List ℕ) (s t : ℕ) (r : List ℕ) : Outcome RequestAnswer → Type 0 where
   takes-of : {x y : Side} → CandidateOf x y b m s t r →
       ((x′ y′ : Side) (k : List ℕ) → CandidateOf x′ y′ b m s t k → movedWeight (people b) c m r ≤ movedWeight (people b) c m k) →

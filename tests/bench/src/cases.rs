@@ -72,7 +72,13 @@ fn pair(q: &Question, man: usize) -> [u8; 2] {
     [man as u8, q.matching[man]]
 }
 
-pub const CALLS: [Call; 7] = [
+/// The request for a man's pair and the next man's.
+fn two_pairs(q: &Question, man: usize) -> [u8; 4] {
+    let next = (man + 1) % q.matching.len();
+    [man as u8, q.matching[man], next as u8, q.matching[next]]
+}
+
+pub const CALLS: [Call; 8] = [
     Call {
         name: "check_book",
         pairs: false,
@@ -102,6 +108,12 @@ pub const CALLS: [Call; 7] = [
         pairs: true,
         archive: |q, man, b| archive::repair(&q.book, &q.matching, &pair(q, man), &mut b.out, &mut b.gains),
         independent: |q, man, b| calls::repair(&q.book, &q.matching, &pair(q, man), &mut b.out, &mut b.gains),
+    },
+    Call {
+        name: "two_pairs",
+        pairs: true,
+        archive: |q, man, b| archive::repair(&q.book, &q.matching, &two_pairs(q, man), &mut b.out, &mut b.gains),
+        independent: |q, man, b| calls::repair(&q.book, &q.matching, &two_pairs(q, man), &mut b.out, &mut b.gains),
     },
     Call {
         name: "grade",

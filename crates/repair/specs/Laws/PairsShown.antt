@@ -1,5 +1,5 @@
--- What is made of the nearest repair of two pairs over the record of a book is what the definitions say of the book: the
--- answer, the n bytes and the n gains. Assumes nothing.
+-- What is made of the nearest repair of two pairs over the record of a book is what the definitions say of the book:
+-- the answer, the n bytes and the n gains. Assumes nothing.
 use Prim.Native.Nat.{ℕ}
 use mathlib.Core.Path.{_≡_, refl, _∙_, ap}
 use mathlib.Core.List.{List}

@@ -1,5 +1,5 @@
--- W-207 of bytes: the candidate of a sort, as the theory has it, is that of bytes; it exists where the sort is not empty,
--- there is one, and it moves only whom every stable matching of the sort moves. Assumes nothing.
+-- W-207 of bytes: the candidate of a sort, as the theory has it, is that of bytes; it exists where the sort is not
+-- empty, there is one, and it moves only whom every stable matching of the sort moves. Assumes nothing.
 use Prim.Native.Nat.{ℕ, _<_}
 use mathlib.Core.Path.{_≡_, sym, _∙_, ap}
 use mathlib.Core.List.{List}

@@ -1,4 +1,4 @@
--- W-207 from the answer to the replies and buffers of the contracts: of a verdict that refuses nothing. Assumes nothing.
+-- W-207 from the answer to the replies and buffers of the contracts, where nothing is refused. Assumes nothing.
 use Prim.Native.Nat.{ℕ}
 use mathlib.Core.Path.{_≡_, refl, sym, _∙_, ap}
 use mathlib.Core.Bool.{true}

@@ -1,5 +1,5 @@
--- The answer for two pairs, of bytes: it is fixed exactly where no stable matching lacks both, and otherwise the candidate
--- that W-207 takes, and no stable matching without both weighs less. Assumes nothing.
+-- The answer for two pairs, of bytes: it is fixed exactly where no stable matching lacks both, and otherwise the
+-- candidate that W-207 takes, and no stable matching without both weighs less. Assumes nothing.
 use Prim.Native.Nat.{ℕ, _≤_, _<_}
 use mathlib.Core.Path.{_≡_, refl, sym, _∙_, ap}
 use mathlib.Core.Bool.{true}

@@ -1,5 +1,5 @@
--- The replies to requests, for one pair and for two, depend on the weights of the students alone: with every weight 1 the
--- weighted ones are the plain ones, and they depend on one weight more than the largest n at most. Assumes nothing.
+-- The replies to requests, for one pair and for two, depend on the weights of the students alone: with every weight 1
+-- the weighted ones are the plain ones, and they depend on one weight more than the largest n at most. Assumes nothing.
 use Prim.Native.Nat.{ℕ, _<_}
 use mathlib.Core.Path.{_≡_, refl, _∙_, ap, ap₂}
 use mathlib.Core.Bool.{Bool, true, false}

@@ -1,6 +1,6 @@
--- Two pairs at one go (W-207), of place vectors: p is the given stable vector, s and t are the two asking proposers, and
--- each pair is one of them with the receiver at his place in p. The four sorts, the candidate of each, and the answer.
--- Assumes nothing.
+-- Two pairs at one go (W-207), of place vectors: p is the given stable vector, s and t are the two asking proposers,
+-- and each pair is one of them with the receiver at his place in p. The four sorts, the candidate of each, and the
+-- answer. Assumes nothing.
 use Prim.Native.Nat.{ℕ, _≤_, _<_, min, max}
 use mathlib.Core.Path.{_≡_}
 use mathlib.Core.Bool.{Bool}
@@ -99,7 +99,9 @@ pub record NearestOf (I : Market) (c p : ℕ → ℕ) (s t j : ℕ) (x y : Side)
   pub candidate : Candidate x y I p s t r
   pub among : order x y < j
   pub nearest : {x′ y′ : Side} {k : ℕ → ℕ} → Candidate x′ y′ I p s t k → order x′ y′ < j → weight I c p r ≤ weight I c p k
-  pub tie : {x′ y′ : Side} {k : ℕ → ℕ} → Candidate x′ y′ I p s t k → order x′ y′ < j → weight I c p k ≡ weight I c p r → order x y ≤ order x′ y′
+  pub tie :
+      {x′ y′ : Side} {k : ℕ → ℕ} → Candidate x′ y′ I p s t k → order x′ y′ < j → weight I c p k ≡ weight I c p r →
+      order x y ≤ order x′ y′
 
 pub data RightUpTo (I : Market) (c p : ℕ → ℕ) (s t j : ℕ) : PairsAnswer → Type 0 where
   parted : {x y : Side} {r : ℕ → ℕ} → NearestOf I c p s t j x y r → RightUpTo I c p s t j (Parted x y r)

@@ -1,5 +1,6 @@
 -- `nearest_pairs` meets its contract: s and t are the numbers of the two men and w and v those of their women, the
--- pushes on either side tell of the candidates of the four sorts, and the nearest of them is the answer. Assumes nothing.
+-- pushes on either side tell of the candidates of the four sorts, and the nearest of them is the answer. Assumes
+-- nothing.
 use Prim.Native.Nat.{ℕ, _≤_, _<_}
 use mathlib.Core.Path.{_≡_, refl, sym}
 use native.Mathlib.Omega.{arith}

@@ -1,5 +1,5 @@
--- `weigh` meets its contract. The loop's invariant: `total` is the weight of those of the first i men who are moved. The
--- measure is what is left of n. Assumes nothing.
+-- `weigh` meets its contract. The loop's invariant: `total` is the weight of those of the first i men who are moved.
+-- The measure is what is left of n. Assumes nothing.
 use Prim.Native.Nat.{ℕ, _+_, _*_, _-_, _≤_}
 use mathlib.Core.Path.{_≡_, refl}
 use native.Mathlib.Omega.{arith}

@@ -1,5 +1,4 @@
--- `answer_one` meets its contract: a refusal of who is asked for, and the answer. `kept` says of the book and matching of
--- the `requires` that they and the weights are not refused. Assumes nothing.
+-- `answer_one` meets its contract: a refusal of who is asked for, and the answer. Assumes nothing.
 use mathlib.Core.Path.{sym, ap}
 use native.Mathlib.Omega.{arith}
 use denote.Ref.{now}

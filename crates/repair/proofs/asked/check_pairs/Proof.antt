@@ -1,5 +1,5 @@
--- `check_pairs` meets its contract: the rules of the second pair are tried where 11 and 12 of the first are kept. Assumes
--- nothing.
+-- `check_pairs` meets its contract: the rules of the second pair are tried where 11 and 12 of the first are kept.
+-- Assumes nothing.
 use mathlib.Core.Path.{sym, _∙_, ap}
 use borrow.Author.Needs.{needs}
 use Rattle.format.specs.Verdict.{verdictOf}

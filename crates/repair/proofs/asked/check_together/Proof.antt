@@ -1,6 +1,6 @@
 -- `check_together` meets its contract: `known` says what is left to try of a man and a woman with numbers below n, and
--- `entry` that the test of his partner is that of his entry; each return rewrites with the tests that led there. Assumes
--- nothing.
+-- `entry` that the test of his partner is that of his entry; each return rewrites with the tests that led there.
+-- Assumes nothing.
 use Prim.Native.Nat.{_<_}
 use mathlib.Core.Path.{_≡_, _∙_}
 use mathlib.Core.Bool.{not}

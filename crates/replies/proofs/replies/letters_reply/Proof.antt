@@ -1,4 +1,4 @@
--- `letters_reply` meets its contract: a byte is the number that it stands for, and both fit one number. Assumes nothing.
+-- `letters_reply` meets its contract: a byte is the number that it stands for. Assumes nothing.
 use borrow.Author.Needs.{needs}
 use Rattle.replies.proofs.replies.letters_reply.Statement.{statement}
 use Rattle.replies.proofs.replies.letters_reply.Tie as tie
