@@ -36,7 +36,7 @@ CASES = [
     *pair_calls.CASES,
 ]
 # What the program takes
-LARGEST = 1048576
+LARGEST = 655360
 
 
 def main():

@@ -1,4 +1,4 @@
-// Runs the calls of the C interface on cases that stand one after the other on standard input, 1,048,576 bytes at
+// Runs the calls of the C interface on cases that stand one after the other on standard input, 655,360 bytes at
 // most.
 //
 // A case is one byte, the number of the call: in the order of include/placement.h, but the two calls by a mentor's
@@ -16,7 +16,7 @@ mod print;
 use libc::STDIN_FILENO;
 
 fn main() {
-    let mut input = [0u8; 1048576];
+    let mut input = [0u8; 655360];
     let len = io::read_full(STDIN_FILENO, &mut input);
     input::run_all(&input[..len]);
 }

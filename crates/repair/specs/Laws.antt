@@ -1,8 +1,5 @@
--- The partner of a man, what a request asks for, what is found for it, and from the nearest repair to the reply and the
--- bytes, of one pair and of two. Assumes nothing.
-pub mod Partner
-pub mod Asking
-pub mod Asked
+-- What is asked for has the reply to the request, and from the nearest repair to the reply and the bytes, of one pair and
+-- of two. Assumes nothing.
 pub mod Requests
 pub mod Returns
 pub mod Shown

@@ -21,11 +21,11 @@ use Rattle.repairs.specs.Weights.{weightOf, checkWeighed}
 use Rattle.repairs.specs.Repair.{RepairAnswer, fixed, repairOutcome, weightedReply, weightedMatching, weightedGains}
 use Rattle.repairs.specs.Pairs.{PairsRepair, bothFixed, pairsOutcome, pairsAnswerFor, pairsDistance, pairsEntries, pairsMatchingFor, pairsGainsFor}
 use Rattle.nearest.specs.Laws.Weighed.{Allowed}
-use Rattle.repair.specs.declared.asked.Asked.{Asked}
-use Rattle.repair.specs.declared.asked.TwoPairs.{TwoPairs}
-use Rattle.repair.specs.declared.asked.Requested.{Requested}
-use Rattle.repair.specs.declared.asked.Requested.the-variants.{One, Two}
-use Rattle.repair.specs.Asked.{requestFor, checkBefore, checkTwo}
+use Rattle.asked.specs.declared.asked.Asked.{Asked}
+use Rattle.asked.specs.declared.asked.TwoPairs.{TwoPairs}
+use Rattle.asked.specs.declared.asked.Requested.{Requested}
+use Rattle.asked.specs.declared.asked.Requested.the-variants.{One, Two}
+use Rattle.asked.specs.Asked.{requestFor, checkBefore, checkTwo}
 
 -- The rules that come before those of the request for one pair
 abbrev pub checkFirst : List ℕ → List ℕ → List ℕ → Asked → Verdict

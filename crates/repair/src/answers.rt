@@ -1,12 +1,12 @@
 // The answer for one pair and for two, over the record of a book and of a stable matching of it: the rules of who is
 // asked for, the nearest repair, and the two result buffers. Contracts speak of each book and matching of which the
 // record is made.
-use crate::asked::Asked;
-use crate::asked::Named;
-use crate::asked::Requested;
-use crate::asked::TwoPairs;
-use crate::asked::check_pairs;
-use crate::asked::named_pair;
+use asked::Asked;
+use asked::Named;
+use asked::Requested;
+use asked::TwoPairs;
+use asked::check_pairs;
+use asked::named_pair;
 use format::Checked;
 use matchings::Judged;
 use nearest::nearest;
@@ -24,7 +24,7 @@ ghost use Rattle.stability.specs.Judge.{FromFine};
 ghost use Rattle.repairs.specs.Repair.{fixed, repairOutcome};
 ghost use Rattle.repairs.specs.Pairs.{bothFixed, pairsOutcome};
 ghost use Rattle.weights.specs.Weights.{Light};
-ghost use Rattle.repair.specs.Asked.{namedVerdict};
+ghost use Rattle.asked.specs.Asked.{namedVerdict};
 ghost use Rattle.repair.specs.Repaired.{Known, RepairsOne, RepairsTwo, RefusedFor};
 
 // The answer for one pair. Where the rules are kept both repairs of the pair are tried.

@@ -1,7 +1,7 @@
 // The two calls for the repair of the pair that a request names, or of two: where every student counts 1, and with
 // weights.
-use crate::asked::asked_in;
 use crate::requested::repair_by;
+use asked::asked_in;
 use format::Instance;
 use repairs::RequestAnswer;
 use weights::read_weights;

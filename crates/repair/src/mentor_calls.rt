@@ -1,8 +1,8 @@
 // The two calls for the repair of a mentor's pair, who gives her own number: where every student counts 1, and with
 // weights.
-use crate::asked::Asked;
-use crate::asked::Requested;
 use crate::requested::repair_by;
+use asked::Asked;
+use asked::Requested;
 use format::Instance;
 use format::Woman;
 use repairs::Answer;

@@ -3,7 +3,7 @@
 use crate::answers::answer_one;
 use crate::answers::answer_two;
 use crate::answers::refused;
-use crate::asked::Requested;
+use asked::Requested;
 use book::is_small;
 use format::Checked;
 use format::Instance;

@@ -36,8 +36,8 @@ use Rattle.nearest_pairs.specs.declared.answer.NearestPairs.{NearestPairs}
 use Rattle.nearest_pairs.specs.Nearest.{ShowsPairs, ShowsPairsFor}
 use Rattle.nearest_pairs.specs.Laws.Book.{shows-book}
 use Rattle.repair_answer.specs.Shown.{Small, gainsAt, pairsShown, pairsShownIn}
-use Rattle.repair.specs.declared.asked.TwoPairs.{TwoPairs}
-use Rattle.repair.specs.Asked.{checkTwo}
+use Rattle.asked.specs.declared.asked.TwoPairs.{TwoPairs}
+use Rattle.asked.specs.Asked.{checkTwo}
 use Rattle.repair.specs.Repaired.{pairsVerdict, RepairedPairs}
 use Rattle.repair.specs.Laws.Returns.{stable-small}
 use Rattle.repair.specs.Laws.Shown.{places-stable}

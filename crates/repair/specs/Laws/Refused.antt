@@ -7,8 +7,8 @@ use Rattle.format.specs.Verdict.{Verdict, refused}
 use Rattle.repairs.specs.declared.answer.RequestAnswer.{RequestAnswer}
 use Rattle.repairs.specs.declared.answer.RequestAnswer.the-variants.{Pair, Pairs}
 use Rattle.repairs.specs.Weights.{checkWeighed}
-use Rattle.repair.specs.declared.asked.Requested.{Requested}
-use Rattle.repair.specs.declared.asked.Requested.the-variants.{One, Two}
+use Rattle.asked.specs.declared.asked.Requested.{Requested}
+use Rattle.asked.specs.declared.asked.Requested.the-variants.{One, Two}
 use Rattle.repair.specs.Repaired.{AnsweredFor, RefusedFor}
 use Rattle.repair.specs.Laws.Returns.{matching-refused}
 use Rattle.repair.specs.Laws.PairsReturns.{pairs-matching-refused}

@@ -17,11 +17,11 @@ use Rattle.repairs.specs.Request.{forOne, checkAsked}
 use Rattle.repairs.specs.Repair.{weightedReply, weightedMatching, weightedGains}
 use Rattle.repairs.specs.Pairs.{one, two, requestOutcome, weightedRequestReply, weightedRequestMatching, weightedRequestGains}
 use Rattle.repairs.specs.Laws.Request.{asked-13}
-use Rattle.repair.specs.declared.asked.Asked.{Asked}
-use Rattle.repair.specs.declared.asked.Asked.the-variants.{Request, Mentor, Nobody}
-use Rattle.repair.specs.declared.asked.Requested.{Requested}
-use Rattle.repair.specs.declared.asked.Requested.the-variants.{One, Two}
-use Rattle.repair.specs.Asked.{AsksOne, Asks}
+use Rattle.asked.specs.declared.asked.Asked.{Asked}
+use Rattle.asked.specs.declared.asked.Asked.the-variants.{Request, Mentor, Nobody}
+use Rattle.asked.specs.declared.asked.Requested.{Requested}
+use Rattle.asked.specs.declared.asked.Requested.the-variants.{One, Two}
+use Rattle.asked.specs.Asked.{AsksOne, Asks}
 use Rattle.repair.specs.Repaired.{askedReply, askedMatching, askedGains, Repaired, AnsweredFor, IsPair}
 
 -- Rule 13 after a check u: the answer is that refusal or u's, and the buffer is as it was

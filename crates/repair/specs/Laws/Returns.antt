@@ -41,10 +41,10 @@ use Rattle.nearest.specs.Laws.Weighed.{Allowed}
 use Rattle.nearest.specs.Laws.Book.{judged-formed, judged-number, judged-usable, judged-alike, judged-men, judged-given, judged-long-his, judged-his, judged-hers, judged-long-hers, shows-book}
 use Rattle.nearest.specs.Moved.{movedAt}
 use Rattle.repair_answer.specs.Shown.{Small, gainsAt, shownAnswer, shownIn}
-use Rattle.repair.specs.declared.asked.Asked.{Asked}
-use Rattle.repair.specs.declared.asked.Named.{Named}
-use Rattle.repair.specs.declared.asked.Named.the-variants.{Pair as Found}
-use Rattle.repair.specs.Asked.{requestFor, checkBefore, checkNamed, namedVerdict, NamedFor, Holders}
+use Rattle.asked.specs.declared.asked.Asked.{Asked}
+use Rattle.asked.specs.declared.asked.Named.{Named}
+use Rattle.asked.specs.declared.asked.Named.the-variants.{Pair as Found}
+use Rattle.asked.specs.Asked.{requestFor, checkBefore, checkNamed, namedVerdict, NamedFor, Holders}
 use Rattle.repair.specs.Repaired.{Repaired}
 use Rattle.repair.specs.Laws.Shown.{places-stable, after-stable, says-answer, says-bytes, says-gains}
 

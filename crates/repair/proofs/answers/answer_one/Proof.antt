@@ -5,7 +5,7 @@ use denote.Ref.{now}
 use borrow.Author.Needs.{needs}
 use Rattle.nearest.specs.Laws.Book.{judged-usable, judged-given, judged-partners, judged-long-his}
 use Rattle.nearest.specs.Laws.Weighed.{allowed-weighable, allowed-weighed}
-use Rattle.repair.specs.Asked.{namedVerdict}
+use Rattle.asked.specs.Asked.{namedVerdict}
 use Rattle.repair.specs.Laws.Returns.{asked-refused, his-length, holders, given-small, found-room, found-student, pair-placed, found-writable, found-small, returns-found}
 use Rattle.repair.proofs.answers.answer_one.Statement.{statement}
 use Rattle.repair.proofs.answers.answer_one.Tie as tie

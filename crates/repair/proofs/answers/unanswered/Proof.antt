@@ -3,8 +3,8 @@ use mathlib.Core.Path.{sym, ap}
 use borrow.Author.Needs.{needs}
 use Rattle.format.specs.Outcome.{after}
 use Rattle.repairs.specs.Repair.{fixed}
-use Rattle.repair.specs.declared.asked.Named.{Named}
-use Rattle.repair.specs.Asked.{namedVerdict}
+use Rattle.asked.specs.declared.asked.Named.{Named}
+use Rattle.asked.specs.Asked.{namedVerdict}
 use Rattle.repair.proofs.answers.unanswered.Statement.{statement}
 use Rattle.repair.proofs.answers.unanswered.Tie as tie
 

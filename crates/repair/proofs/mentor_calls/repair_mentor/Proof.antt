@@ -9,7 +9,7 @@ use borrow.Author.Needs.{needs}
 use Rattle.format.specs.Format.{largest}
 use Rattle.repairs.specs.Laws.Mentor.{unit-mentor-reply, unit-mentor-matching, unit-mentor-gains}
 use Rattle.weights.specs.Laws.Ones.{ones, ones-length, ones-light-given, ones-unit}
-use Rattle.repair.specs.declared.asked.Asked.the-variants.{Mentor}
+use Rattle.asked.specs.declared.asked.Asked.the-variants.{Mentor}
 use Rattle.repair.specs.Laws.Requests.{answered-one, answered-pair}
 use Rattle.repair.proofs.mentor_calls.repair_mentor.Statement.{statement}
 use Rattle.repair.proofs.mentor_calls.repair_mentor.Tie as tie

@@ -7,7 +7,7 @@ use denote.Ref.{now}
 use borrow.Author.Needs.{needs}
 use Rattle.repairs.specs.Mentor.{weightedMentorReply, weightedMentorMatching, weightedMentorGains}
 use Rattle.repairs.specs.Laws.Mentor.{cut-mentor-reply, cut-mentor-matching, cut-mentor-gains}
-use Rattle.repair.specs.declared.asked.Asked.the-variants.{Mentor}
+use Rattle.asked.specs.declared.asked.Asked.the-variants.{Mentor}
 use Rattle.repair.specs.Laws.Requests.{answered-one, answered-pair}
 use Rattle.repair.proofs.mentor_calls.weighted_repair_mentor.Statement.{statement}
 use Rattle.repair.proofs.mentor_calls.weighted_repair_mentor.Tie as tie
