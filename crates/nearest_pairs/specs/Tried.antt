@@ -42,11 +42,11 @@ pub record PushedPair (I : Market) (c p : ℕ → ℕ) (s t : ℕ) (r : Pushes) 
   pub long : (length (r .both .proposers) ≡ largest) × (length (r .both .receivers) ≡ largest)
 
 -- Below noRepair, v is within the lists
-abbrev pub Found : Market → ℕ → (ℕ → ℕ) → Type 0
-Found I far v = far < noRepair → Within I v
+abbrev pub FoundWithin : Market → ℕ → (ℕ → ℕ) → Type 0
+FoundWithin I far v = far < noRepair → Within I v
 
 -- Two repairs that were found, up and down, the one up not moving t, and together stable
-pub record Together (I : Market) (p : ℕ → ℕ) (t up : ℕ) (u : ℕ → ℕ) (down : ℕ) (d : ℕ → ℕ) : Type 0 where
+pub record Compatible (I : Market) (p : ℕ → ℕ) (t up : ℕ) (u : ℕ → ℕ) (down : ℕ) (d : ℕ → ℕ) : Type 0 where
   pub above : up < noRepair
   pub below : down < noRepair
   pub unmoved : u t ≡ p t
@@ -55,10 +55,10 @@ pub record Together (I : Market) (p : ℕ → ℕ) (t up : ℕ) (u : ℕ → ℕ
 -- The candidate that is made of them: below noRepair they are so, its places are theirs and it is so far; otherwise
 -- they are not
 pub record BesideIs (I : Market) (c p : ℕ → ℕ) (t up : ℕ) (u : ℕ → ℕ) (down : ℕ) (d : ℕ → ℕ) (r : Tried) : Type 0 where
-  pub yes : r .far < noRepair → Together I p t up u down d
+  pub yes : r .far < noRepair → Compatible I p t up u down d
   pub places : r .far < noRepair → Same I (vec (r .men)) (besideMoved p u d)
   pub distance : r .far < noRepair → r .far ≡ weight I c p (vec (r .men))
-  pub no : noRepair ≤ r .far → Together I p t up u down d → ⊥
+  pub no : noRepair ≤ r .far → Compatible I p t up u down d → ⊥
   pub long : length (r .men) ≡ largest
 
 -- The code's candidate r with the places of a search that came to `found`, over n men: how far it is, or noRepair where

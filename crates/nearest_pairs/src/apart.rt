@@ -9,9 +9,6 @@ use stable_places::is_stable;
 ghost use mathlib.Core.Path.{_≡_};
 ghost use mathlib.Core.Bool.{not};
 ghost use Prim.Native.Nat.{_≤_, _<_};
-ghost use lib.Dec.{eqb};
-ghost use lib.ListN.{length};
-ghost use Rattle.laws.specs.Choice.{pick};
 ghost use Rattle.laws.specs.Moment.{vec₀};
 ghost use Rattle.laws.specs.Values.{vec};
 ghost use Rattle.format.specs.Format.{largest};
@@ -21,7 +18,7 @@ ghost use Rattle.stable_theory.specs.Repairs.Pairs.{besideMoved};
 ghost use Rattle.stability.specs.Judge.{FromFine};
 ghost use Rattle.stability.specs.Placing.{PlacesOf};
 ghost use Rattle.pushing.specs.Push.{Weighed};
-ghost use Rattle.nearest_pairs.specs.Tried.{Found, BesideIs};
+ghost use Rattle.nearest_pairs.specs.Tried.{FoundWithin, BesideIs};
 
 // The place of man i: that above, if it is another than his own, and otherwise that below.
 fn place_beside(
@@ -77,7 +74,7 @@ pub(crate) fn apart(
     ghost { Record }
     requires { λ R. ⌜ lent n mlists mranks wlists wranks ≡ R ⌝ }
     requires { λ R. ⌜ FromFine partial R × (n ≤ largest) × (t < n) ⌝ }
-    requires { λ R. ⌜ Found (marketIn R) (up .far) (vec (up .receivers)) × Found (marketIn R) (down .far) (vec (down .proposers)) ⌝ }
+    requires { λ R. ⌜ FoundWithin (marketIn R) (up .far) (vec (up .receivers)) × FoundWithin (marketIn R) (down .far) (vec (down .proposers)) ⌝ }
     requires { λ _. ⌜ Weighed n (now weights) ⌝ }
     ensures { λ R r. ⌜ BesideIs (marketIn R) (vec₀ weights) (vec men) t (up .far) (vec (up .receivers))
         (down .far) (vec (down .proposers)) r ⌝ }

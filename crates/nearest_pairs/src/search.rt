@@ -15,8 +15,6 @@ use tables::list_at;
 use tables::wide;
 ghost use mathlib.Core.Path.{_≡_};
 ghost use Prim.Native.Nat.{_<_};
-ghost use lib.Dec.{ltb};
-ghost use Rattle.laws.specs.Choice.{pick};
 ghost use Rattle.laws.specs.Moment.{vec₀};
 ghost use Rattle.laws.specs.Values.{vec};
 ghost use Rattle.format.specs.Record.{Record, lent};

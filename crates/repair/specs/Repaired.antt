@@ -19,7 +19,7 @@ use Rattle.repairs.specs.declared.answer.RequestAnswer.{RequestAnswer}
 use Rattle.repairs.specs.declared.answer.RequestAnswer.the-variants.{Pair, Pairs}
 use Rattle.repairs.specs.Weights.{weightOf, checkWeighed}
 use Rattle.repairs.specs.Repair.{RepairAnswer, fixed, repairOutcome, weightedReply, weightedMatching, weightedGains}
-use Rattle.repairs.specs.Pairs.{PairsRepair, bothFixed, pairsOutcome, pairsAnswerFor, pairsDistance, pairsEntries, pairsMatchingFor, pairsGainsFor}
+use Rattle.repairs.specs.Pairs.{bothFixed, pairsOutcome, pairsAnswerFor, pairsDistance, pairsEntries, pairsMatchingFor, pairsGainsFor}
 use Rattle.nearest.specs.Laws.Weighed.{Allowed}
 use Rattle.asked.specs.declared.asked.Asked.{Asked}
 use Rattle.asked.specs.declared.asked.TwoPairs.{TwoPairs}
@@ -84,8 +84,8 @@ RefusedFor (Two t) v (Pair r) = ⊥
 RefusedFor (Two t) v (Pairs r) = pairsOutcome r ≡ after v bothFixed
 
 -- The answer of each book of which the check's answer, whether lists may be short, and the record are made
-abbrev pub Answers : Checked → Bool → Record → (m k : List ℕ) → Requested → List ℕ → List ℤ → RequestAnswer → List ℕ → List ℤ → Type 0
-Answers answer partial R m k a out gains r out′ gains′ = EachBook answer partial R (λ b. AnsweredFor b m k a out gains r out′ gains′)
+abbrev pub AnswersEach : Checked → Bool → Record → (m k : List ℕ) → Requested → List ℕ → List ℤ → RequestAnswer → List ℕ → List ℤ → Type 0
+AnswersEach answer partial R m k a out gains r out′ gains′ = EachBook answer partial R (λ b. AnsweredFor b m k a out gains r out′ gains′)
 
 -- The record, and what the check left, are made of some book and matching that is not refused with the weights k
 pub record Known (R : Record) (j : Judged) (k : List ℕ) : Type 0 where

@@ -16,7 +16,7 @@ ghost use Rattle.laws.specs.Moment.{now₀, now₁};
 ghost use Rattle.format.specs.Record.{Record, lent, LongTables};
 ghost use Rattle.stability.specs.Judge.{FromBook};
 ghost use Rattle.weights.specs.Weights.{Light};
-ghost use Rattle.repair.specs.Repaired.{AnsweredFor, Answers};
+ghost use Rattle.repair.specs.Repaired.{AnsweredFor, AnswersEach};
 
 // The repair of the pair that is asked for, or of the two, or the first rule that is broken and where. A repair's
 // matching goes to the front of `out` and each student's places gained to that of `gains`; past n entries, and
@@ -126,7 +126,7 @@ fn repair_in<'a>(
     requires { λ R. ⌜ lent n mlists mranks wlists wranks ≡ R ⌝ }
     requires { λ R. ⌜ FromBook answer partial R ⌝ }
     requires { λ _. ⌜ Light (now weights) ⌝ }
-    ensures { λ R r. ⌜ Answers answer partial R (now₀ matching) (now₀ weights) asked (now₀ out) (now₀ gains) r
+    ensures { λ R r. ⌜ AnswersEach answer partial R (now₀ matching) (now₀ weights) asked (now₀ out) (now₀ gains) r
         (now₁ out) (now₁ gains) ⌝ }
 {
     let judged = judge(answer, n, partial, mlists, mranks, wlists, wranks, matching);

@@ -66,27 +66,27 @@ abbrev pub letterOn : Side → ℕ
 letterOn upward = 85
 letterOn downward = 68
 
-abbrev pub lettersFor : PairsRepair → Reply
-lettersFor (ends x y distance) = lettered (twoLetters (letterOn x) (letterOn y)) distance
-lettersFor bothFixed = lettered 70 0
+abbrev pub twoLettersFor : PairsRepair → Reply
+twoLettersFor (ends x y distance) = lettered (twoLetters (letterOn x) (letterOn y)) distance
+twoLettersFor bothFixed = lettered 70 0
 
-abbrev pub pairsReply : Outcome PairsRepair → Reply
-pairsReply answer = replyBy lettersFor answer
+abbrev pub twoLetterReply : Outcome PairsRepair → Reply
+twoLetterReply answer = replyBy twoLettersFor answer
 
 -- The reply to a request: for one pair, or for two
-abbrev pub requestFor : RequestAnswer → Reply
-requestFor (one answer) = letterFor answer
-requestFor (two answer) = lettersFor answer
+abbrev pub requestLettersFor : RequestAnswer → Reply
+requestLettersFor (one answer) = letterFor answer
+requestLettersFor (two answer) = twoLettersFor answer
 
 abbrev pub requestLetters : Outcome RequestAnswer → Reply
-requestLetters answer = replyBy requestFor answer
+requestLetters answer = replyBy requestLettersFor answer
 
 -- so the reply for a pair is that of the pair, and that for two theirs
 pub letters-one : (answer : Outcome RepairAnswer) → requestLetters (told one answer) ≡ letterReply answer
 letters-one (gives value) = refl
 letters-one (refusal number place second) = refl
 
-pub letters-two : (answer : Outcome PairsRepair) → requestLetters (told two answer) ≡ pairsReply answer
+pub letters-two : (answer : Outcome PairsRepair) → requestLetters (told two answer) ≡ twoLetterReply answer
 letters-two (gives value) = refl
 letters-two (refusal number place second) = refl
 

@@ -19,7 +19,7 @@ ghost use Rattle.repairs.specs.Pairs.{pairsOutcome, requestOutcome};
 ghost use Rattle.rotations.specs.Precedence.{precedenceOutcome};
 ghost use Rattle.replies.specs.Replies.{granted, denied, lettered, replyFor};
 ghost use Rattle.replies.specs.Replies.{numberReply, gradeValue, gradedReply, yesNoReply, letterReply};
-ghost use Rattle.replies.specs.Replies.{twoLetters, pairsReply, requestLetters};
+ghost use Rattle.replies.specs.Replies.{twoLetters, twoLetterReply, requestLetters};
 
 // Nothing is refused.
 fn granted_reply(place: usize, value: usize) -> Reply
@@ -71,7 +71,7 @@ pub fn answer_reply(answer: Answer) -> Reply
 
 // The reply for a repair of two pairs: both letters and the distance.
 fn pairs_reply(answer: PairsAnswer) -> Reply
-    ensures { λ r. ⌜ r ≡ pairsReply (pairsOutcome answer) ⌝ }
+    ensures { λ r. ⌜ r ≡ twoLetterReply (pairsOutcome answer) ⌝ }
 {
     match answer {
         PairsAnswer::UpUp(repair) => letters_reply(b'U', b'U', repair.distance),

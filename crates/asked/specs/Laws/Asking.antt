@@ -1,8 +1,8 @@
 -- What a request asks for: two pairs where it has four entries and does not name one pair twice, otherwise one pair or
 -- nobody. Assumes nothing.
 use Prim.Native.Nat.{ℕ, _<_}
-use mathlib.Core.Path.{_≡_, refl, sym, _∙_, ap}
-use mathlib.Core.Bool.{Bool, true, false, not}
+use mathlib.Core.Path.{_≡_, sym, _∙_}
+use mathlib.Core.Bool.{true, false, not}
 use mathlib.Core.List.{List}
 use native.Mathlib.Omega.{arith}
 use lib.Dec.{eqb}
@@ -12,10 +12,10 @@ use Rattle.laws.specs.Choice.{both, split}
 use Rattle.format.specs.declared.people.Pair.{Pair}
 use Rattle.format.specs.Format.{pairRow, entryIn}
 use Rattle.format.specs.Laws.Rows.{entries-same, pair-first, pair-second, pair-long}
-use Rattle.repairs.specs.Request.{askingMan, askingWoman, secondMan, secondWoman, forTwo, forOne}
+use Rattle.repairs.specs.Request.{askingMan, askingWoman, forTwo, forOne}
 use Rattle.asked.specs.declared.asked.Asked.the-variants.{Request, Nobody}
 use Rattle.asked.specs.declared.asked.Requested.the-variants.{One, Two}
-use Rattle.asked.specs.Asked.{Asks, Names}
+use Rattle.asked.specs.Asked.{Asks}
 
 -- a request of two entries is the row of these
 row-of : (q : List ℕ) {x y : ℕ} → length q ≡ 2 → x ≡ askingMan q → y ≡ askingWoman q → pairRow x y ≡ q

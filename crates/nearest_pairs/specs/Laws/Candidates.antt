@@ -1,6 +1,6 @@
 -- What the pushes say of the candidates of the four sorts. Assumes nothing.
-use Prim.Native.Nat.{ℕ, _≤_, _<_, min}
-use mathlib.Core.Path.{_≡_, refl, sym, _∙_, subst⁻¹}
+use Prim.Native.Nat.{ℕ, _≤_, _<_}
+use mathlib.Core.Path.{_≡_, refl, sym}
 use mathlib.Core.List.{List}
 use native.Mathlib.Omega.{arith}
 use lib.ListN.{length}
@@ -12,7 +12,7 @@ use Rattle.stable_theory.specs.Stable.Vector.{Within, Holds, Stable, Mirror}
 use Rattle.stable_theory.specs.Stable.Lattice.{stable-min}
 use Rattle.stable_theory.specs.Stable.Mirror.{mirror-back, mirror-of, mirror-order, stable-across}
 use Rattle.stable_theory.specs.Stable.Alike.{alike-refl}
-use Rattle.stable_theory.specs.Repairs.Repair.{Parts, IsDown, IsUp, down, moved, weight}
+use Rattle.stable_theory.specs.Repairs.Repair.{IsDown, IsUp, down, moved, weight}
 use Rattle.stable_theory.specs.Repairs.RepairLaws.{down-is, down-exists, down-across, parts-across}
 use Rattle.stable_theory.specs.Repairs.Moves.{down-there}
 use Rattle.stable_theory.specs.Repairs.Sides.{Side, upward, downward}
@@ -26,7 +26,7 @@ use Rattle.stability.specs.Blocking.{OnLists}
 use Rattle.stability.specs.Placing.{PlacesOf}
 use Rattle.nearest.specs.Tried.{noRepair, Tries}
 use Rattle.nearest_pairs.specs.declared.answer.Candidate.{Candidate as Tried}
-use Rattle.nearest_pairs.specs.Tried.{TriesBoth, Together, BesideIs, MadeOf, Tells}
+use Rattle.nearest_pairs.specs.Tried.{TriesBoth, Compatible, BesideIs, MadeOf, Tells}
 use Rattle.nearest_pairs.specs.Laws.Pushed.{tries-none}
 
 -- The code's candidate with the places of a search, where nothing weighs as much as noRepair
@@ -66,7 +66,7 @@ beside-on R few p E U D =
 
 -- The code's candidate that is made of two repairs: none where they are not together, and theirs where they are
 module _ (I : Market) {c p u d : ℕ → ℕ} {t up down : ℕ} {r : Tried} where
-  pub beside-none : r .far ≡ noRepair → length (r .men) ≡ largest → (Together I p t up u down d → ⊥) → BesideIs I c p t up u down d r
+  pub beside-none : r .far ≡ noRepair → length (r .men) ≡ largest → (Compatible I p t up u down d → ⊥) → BesideIs I c p t up u down d r
   beside-none e h n =
       record {
         yes = λ l. absurd (omega arith);
@@ -78,7 +78,7 @@ module _ (I : Market) {c p u d : ℕ → ℕ} {t up down : ℕ} {r : Tried} wher
 
   pub beside-some :
       ((k : ℕ → ℕ) → weight I c p k < noRepair) → {places : List ℕ} → MadeOf (I .proposers .size) c p 0 places r →
-      PlacesOf (I .proposers .size) (besideMoved p u d) places → Together I p t up u down d → BesideIs I c p t up u down d r
+      PlacesOf (I .proposers .size) (besideMoved p u d) places → Compatible I p t up u down d → BesideIs I c p t up u down d r
   beside-some most {places} Q E T =
       let far = made-far I most Q (omega arith) in
       record {
@@ -128,15 +128,15 @@ module _ {I : Market} (M : Proper I) {p q : ℕ → ℕ} {s t w w′ : ℕ} (P :
     is-up l = down-across M P X (mirror-back (A .mirror l)) h (A .repair l)
 
     -- what is together is of the sort
-    sorted : Together I p t up u down d → Sorted upward downward I p s t (besideMoved p u d)
+    sorted : Compatible I p t up u down d → Sorted upward downward I p s t (besideMoved p u d)
     sorted T =
         let U = is-up (T .above) in
         let D = B .repair (T .below) in
         record { stable = T .stable; first = beside-first M P h h′ U D; second = beside-second M P h h′ U D (T .unmoved) }
 
     -- and where the sort is not empty they are together
-    together : {k : ℕ → ℕ} → Sorted upward downward I p s t k → Together I p t up u down d
-    together K =
+    compatible : {k : ℕ → ℕ} → Sorted upward downward I p s t k → Compatible I p t up u down d
+    compatible K =
         let above = split noRepair up (λ z. let (f, F) = above-there M P X h h′ (K .stable) (K .first) in absurd (tries-none light A z f F)) (λ z. z) in
         let below = split noRepair down (λ z. absurd (tries-none most B z _ (below-there M P X h h′ (K .stable) (K .second)))) (λ z. z) in
         let U = is-up above in
@@ -156,7 +156,7 @@ module _ {I : Market} (M : Proper I) {p q : ℕ → ℕ} {s t w w′ : ℕ} (P :
               let R = beside-candidate M P h h′ (is-up (T .above)) (B .repair (T .below)) (sorted T) in
               candidate-alike (alike-refl I) (λ i u. refl) (h .pair .proposer) (h′ .pair .proposer) upward downward (λ i u. sym (Q .places l i u)) R;
           distance = Q .distance;
-          none = λ l k K. Q .no l (together (K .sorted));
+          none = λ l k K. Q .no l (compatible (K .sorted));
           long = Q .long;
         }
 

@@ -22,16 +22,16 @@ use Rattle.nearest.specs.Tried.{noRepair}
 use Rattle.nearest.specs.Nearest.{Given, Placed}
 use Rattle.nearest_pairs.specs.declared.answer.Pushes.{Pushes}
 use Rattle.nearest_pairs.specs.declared.answer.Candidate.{Candidate as Tried}
-use Rattle.nearest_pairs.specs.Tried.{TriesOne, PushedPair, Found, BesideIs, MadeOf, nearestOf}
+use Rattle.nearest_pairs.specs.Tried.{TriesOne, PushedPair, FoundWithin, BesideIs, MadeOf, nearestOf}
 use Rattle.nearest_pairs.specs.Nearest.{ShowsPairs}
 use Rattle.nearest_pairs.specs.Laws.Candidates.{tells-uu, tells-ud, tells-dd, tells-exchanged}
 use Rattle.nearest_pairs.specs.Laws.Search.{shows-nearest}
 
 -- what a push finds is within the lists, on both sides
-pub found-down : {I : Market} {c p : ℕ → ℕ} {s : ℕ} (r : Vectors) → TriesOne I c p s r → Found I (r .far) (vec (r .proposers))
+pub found-down : {I : Market} {c p : ℕ → ℕ} {s : ℕ} (r : Vectors) → TriesOne I c p s r → FoundWithin I (r .far) (vec (r .proposers))
 found-down r T l = T .repair l .parts .stable .settled .within
 
-pub found-up : {I : Market} {c p : ℕ → ℕ} {s : ℕ} (r : Vectors) → TriesOne (exchange I) c p s r → Found I (r .far) (vec (r .receivers))
+pub found-up : {I : Market} {c p : ℕ → ℕ} {s : ℕ} (r : Vectors) → TriesOne (exchange I) c p s r → FoundWithin I (r .far) (vec (r .receivers))
 found-up r T l = T .mirror l .right
 
 -- Each man of a stable matching of a record weighs at most 255

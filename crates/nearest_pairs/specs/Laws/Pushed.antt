@@ -1,15 +1,14 @@
 -- The pushes of two proposers: alone each finds its repair or there is none, and so do both, one after the other.
 -- Assumes nothing.
-use Prim.Native.Nat.{ℕ, _*_, _≤_, _<_}
+use Prim.Native.Nat.{ℕ, _≤_, _<_}
 use mathlib.Core.Path.{_≡_}
 use native.Mathlib.Omega.{arith}
 use Rattle.stable_theory.specs.Stable.Market.{Market, Proper}
-use Rattle.stable_theory.specs.Stable.Vector.{Holds, Stable, Mirror, Before}
 use Rattle.stable_theory.specs.Stable.Holding.{hold-same, hold-at}
 use Rattle.stable_theory.specs.Repairs.Repair.{Parts, IsDown, down, weight}
 use Rattle.stable_theory.specs.Repairs.RepairLaws.{down-is, down-exists}
 use Rattle.stable_theory.specs.Repairs.Sides.{downward}
-use Rattle.stable_theory.specs.Repairs.Pairs.{Sorted, IsDownBoth}
+use Rattle.stable_theory.specs.Repairs.Pairs.{Sorted}
 use Rattle.stable_theory.specs.Repairs.PairsDown.{both-one, both-two, sorted-second}
 use Rattle.pushing.specs.Push.{Pushable}
 use Rattle.nearest.specs.Tried.{noRepair, Tries}

@@ -1,10 +1,9 @@
 -- The nearest of the candidates, one after the other: what is found up to a sort is right up to it, and what is found
 -- of all four is the answer. Assumes nothing.
 use Prim.Native.Nat.{ℕ, suc, _≤_, _<_}
-use mathlib.Core.Path.{_≡_, refl, sym, _∙_}
+use mathlib.Core.Path.{_≡_, refl, _∙_}
 use mathlib.Core.List.{List}
 use native.Mathlib.Omega.{arith}
-use lib.Dec.{ltb}
 use lib.ListN.{length}
 use borrow.Author.Tests.{lt-ltb, le-ltb}
 use Rattle.laws.specs.Choice.{split}
@@ -20,7 +19,7 @@ use Rattle.nearest.specs.Tried.{noRepair}
 use Rattle.nearest_pairs.specs.declared.answer.Candidate.{Candidate as Tried}
 use Rattle.nearest_pairs.specs.declared.answer.NearestPairs.{NearestPairs}
 use Rattle.nearest_pairs.specs.Tried.{Tells, nearerOf, noneOf, nearestOf}
-use Rattle.nearest_pairs.specs.Nearest.{lettersFor, lettersOf, pairsFar, vectorAfter, ShowsPairs}
+use Rattle.nearest_pairs.specs.Nearest.{lettersFor, pairsFar, ShowsPairs}
 
 -- What is found up to place j of the order: an answer that is right of these sorts, and how far it is
 pub record FoundUpTo (I : Market) (c p : ℕ → ℕ) (s t j : ℕ) (r : NearestPairs) : Type 0 where

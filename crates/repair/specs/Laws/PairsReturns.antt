@@ -16,7 +16,7 @@ use Rattle.stable_theory.specs.Repairs.Pairs.{PairsRight}
 use Rattle.stable_theory.specs.Repairs.PairsAnswers.{pairs-answer-of}
 use Rattle.matchings.specs.declared.places.Judged.{Judged}
 use Rattle.matchings.specs.BookMarket.{market, market-proper}
-use Rattle.matchings.specs.Matching.{womanOf, vectorOf, checkMatching}
+use Rattle.matchings.specs.Matching.{vectorOf, checkMatching}
 use Rattle.matchings.specs.Laws.StableCheck.{fine-stable}
 use Rattle.matchings.specs.Laws.StableVector.{placed-on, fine-vector}
 use Rattle.extremes.specs.Places.{MatchingWritable, womenAt}

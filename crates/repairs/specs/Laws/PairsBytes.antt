@@ -7,7 +7,7 @@ use native.Mathlib.Omega.{arith}
 use Rattle.format.specs.Verdict.{fine}
 use Rattle.format.specs.Outcome.{Outcome, gives}
 use Rattle.format.specs.Format.{people}
-use Rattle.stable_theory.specs.Repairs.Sides.{Side, upward, downward, EndsOn, ends-apart, one-end}
+use Rattle.stable_theory.specs.Repairs.Sides.{Side, ends-apart, one-end, ends-same}
 use Rattle.stable_theory.specs.Repairs.Pairs.{Sorted, Candidate, candidate}
 use Rattle.stable_theory.specs.Repairs.PairsLaws.{candidate-exists}
 use Rattle.stable_theory.specs.Repairs.PairsAnswers.{order-same}
@@ -29,11 +29,6 @@ use Rattle.repairs.specs.PairsPromise.{WithoutBoth, OfSort, CandidateOf,
 -- a stable matching k of a book
 stable-in : {b : List ℕ} (k : List ℕ) → checkMatching b k ≡ fine → StableIn b k
 stable-in {b} k f = fine-stable b k .0 f
-
--- the same places end on the same side
-ends-same : (x : Side) {a c d e : ℕ} → a ≡ c → d ≡ e → EndsOn x a d → EndsOn x c e
-ends-same upward p q l = omega arith
-ends-same downward p q l = omega arith
 
 -- places that lie between each other and a third are the same
 between-both : {x y z : ℕ} → Between x y z → Between x z y → y ≡ z
@@ -75,8 +70,8 @@ module _ {b m : List ℕ} (S : StableIn b m) {s t : ℕ} (P : PairIn b m s) (Q :
       let W = S .matching .formed in
       let f = vector-fine W (K .stable) in
       record {
-        first = record { stable = f; ends = ends-same x (sym (vector-place W (K .stable) (P .student))) (place-rank (S .matching) (P .student)) (K .first) };
-        second = record { stable = f; ends = ends-same y (sym (vector-place W (K .stable) (Q .student))) (place-rank (S .matching) (Q .student)) (K .second) };
+        first = record { stable = f; ends = ends-same x _ _ _ _ (sym (vector-place W (K .stable) (P .student))) (place-rank (S .matching) (P .student)) (K .first) };
+        second = record { stable = f; ends = ends-same y _ _ _ _ (sym (vector-place W (K .stable) (Q .student))) (place-rank (S .matching) (Q .student)) (K .second) };
       }
 
   -- the candidate of a sort

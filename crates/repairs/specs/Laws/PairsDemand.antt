@@ -1,29 +1,22 @@
 -- W-207 from the answer to the replies and buffers of the contracts, where nothing is refused. Assumes nothing.
 use Prim.Native.Nat.{ℕ}
-use mathlib.Core.Path.{_≡_, refl, sym, _∙_, ap}
+use mathlib.Core.Path.{_≡_, ap}
 use mathlib.Core.Bool.{true}
 use mathlib.Core.List.{List}
 use mathlib.Core.Logic.{_↔_}
-use native.Mathlib.Omega.{arith}
 use lib.IntN.{ℤ}
 use Rattle.laws.specs.Choice.{pick}
 use Rattle.format.specs.Verdict.{Verdict, fine}
 use Rattle.format.specs.Outcome.{Outcome, gives, told}
 use Rattle.format.specs.Laws.Outcome.{gives-same}
-use Rattle.format.specs.Format.{people}
 use Rattle.matchings.specs.Matching.{checkMatching, StableIn, womanOf}
 use Rattle.matchings.specs.Laws.StableCheck.{fine-stable}
-use Rattle.repairs.specs.Weights.{movedWeight}
 use Rattle.repairs.specs.Request.{forTwo}
-use Rattle.repairs.specs.Pairs.{RequestAnswer, two, ends, bothFixed, pairsReplyAfter, pairsMatchingAfter, pairsGainsAfter}
+use Rattle.repairs.specs.Pairs.{RequestAnswer, two, bothFixed, pairsReplyAfter, pairsMatchingAfter, pairsGainsAfter}
 use Rattle.repairs.specs.Laws.PairsRequest.{row-first, row-third, row-two}
 use Rattle.repairs.specs.Laws.PairsReply.{pairs-right, pairs-fixed, pairs-taken, pairs-gained}
 use Rattle.repairs.specs.Promise.{PairIn, written, Gained}
 use Rattle.repairs.specs.PairsPromise.{pairsOf, NoneLacksBoth, TakesOf, LightestOf}
-
--- a value of two pairs is that of the answer
-two-same : {x y : RequestAnswer} → gives x ≡ gives y → x ≡ y
-two-same e = gives-same e
 
 module _ (b : List ℕ) (c : ℕ → ℕ) (m : List ℕ) (s t : ℕ) (f : checkMatching b m ≡ fine) (P : PairIn b m s) (Q : PairIn b m t) (apart : s ≡ t → ⊥)
     {v : Verdict} (e : v ≡ fine) where
@@ -45,7 +38,7 @@ module _ (b : List ℕ) (c : ℕ → ℕ) (m : List ℕ) (s t : ℕ) (f : checkM
     both-fixed =
         let R = pairs-fixed inside P Q c (pairs-right inside P Q c) in
         rw (for-two, e, row-first s (womanOf m s) t (womanOf m t), row-third s (womanOf m s) t (womanOf m t))
-        (λ q. R .0 (let z = two-same q in cc), λ n. ap (λ x. gives (two x)) (R .1 n))
+        (λ q. R .0 (let z = gives-same q in cc), λ n. ap (λ x. gives (two x)) (R .1 n))
 
     -- else the candidate that is taken
     pub both-taken :

@@ -1,8 +1,7 @@
 -- The answer for two pairs, of bytes: it is fixed exactly where no stable matching lacks both, and otherwise the
 -- candidate that W-207 takes, and no stable matching without both weighs less. Assumes nothing.
-use Prim.Native.Nat.{ℕ, _≤_, _<_}
-use mathlib.Core.Path.{_≡_, refl, sym, _∙_, ap}
-use mathlib.Core.Bool.{true}
+use Prim.Native.Nat.{ℕ, _≤_}
+use mathlib.Core.Path.{_≡_, refl}
 use mathlib.Core.List.{List}
 use mathlib.Core.Logic.{_↔_}
 use native.Mathlib.Omega.{arith}
@@ -20,7 +19,7 @@ use Rattle.stable_theory.specs.Repairs.Pairs.{PartsBoth, order, NearestOf, Pair
 use Rattle.stable_theory.specs.Repairs.PairsLaws.{candidate-exists, candidate-least}
 use Rattle.stable_theory.specs.Repairs.PairsAnswers.{order-most, pairs-answer-of, pairs-nearest, pairs-never}
 use Rattle.matchings.specs.BookMarket.{market, market-proper}
-use Rattle.matchings.specs.Matching.{vectorOf, StableIn, womanOf}
+use Rattle.matchings.specs.Matching.{vectorOf, StableIn}
 use Rattle.matchings.specs.Extreme.{matchingOf}
 use Rattle.matchings.specs.Laws.StableCheck.{fine-stable}
 use Rattle.matchings.specs.Laws.StableVector.{stable-of, vector-stable, fine-vector}

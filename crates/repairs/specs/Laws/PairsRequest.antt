@@ -1,12 +1,10 @@
 -- Requests for two pairs: what a request for the pairs of two students names, that it is not refused, and the same pair
 -- twice. Assumes nothing.
-use Prim.Native.Nat.{ℕ, _≤_, _<_}
-use mathlib.Core.Path.{_≡_, refl, sym, _∙_, ap}
+use Prim.Native.Nat.{ℕ, _≤_}
+use mathlib.Core.Path.{_≡_, refl, sym, _∙_}
 use mathlib.Core.Bool.{Bool, true, false}
 use mathlib.Core.List.{List, _++_}
-use lib.Dec.{eqb}
 use lib.ListN.{length}
-use lib.IntN.{ℤ}
 use borrow.Author.Tests.{eq-eqb, ne-eqb}
 use Rattle.laws.specs.Choice.{pick}
 use Rattle.format.specs.Verdict.{Verdict, fine}
@@ -14,13 +12,12 @@ use Rattle.format.specs.Laws.Verdict.{goes-on}
 use Rattle.format.specs.Outcome.{refusal, after, filled, told}
 use Rattle.format.specs.Laws.Outcome.{refused-held}
 use Rattle.format.specs.Format.{people, entryIn, pairRow}
-use Rattle.matchings.specs.Matching.{checkMatching, womanOf}
-use Rattle.repairs.specs.Weights.{checkWeighed}
-use Rattle.repairs.specs.Request.{askingMan, askingWoman, secondMan, secondWoman, namesTwice, forTwo, forOne, checkTogether, checkPair, checkPairs, checkBoth}
+use Rattle.matchings.specs.Matching.{womanOf}
+use Rattle.repairs.specs.Request.{askingMan, askingWoman, secondMan, secondWoman, forTwo, forOne, checkTogether, checkPair, checkPairs, checkBoth}
 use Rattle.repairs.specs.Repair.{RepairAnswer}
 use Rattle.repairs.specs.Pairs.{PairsRepair, one, two}
 use Rattle.repairs.specs.Laws.Request.{together-fine, buffers-fine}
-use Rattle.repairs.specs.Promise.{PairIn, pairOf}
+use Rattle.repairs.specs.Promise.{PairIn}
 use Rattle.repairs.specs.PairsPromise.{pairsOf}
 
 -- the four entries of two rows of two

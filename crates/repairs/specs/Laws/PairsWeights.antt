@@ -2,14 +2,13 @@
 -- the weighted ones are the plain ones, and they depend on one weight more than the largest n at most. Assumes nothing.
 use Prim.Native.Nat.{ℕ, _<_}
 use mathlib.Core.Path.{_≡_, refl, _∙_, ap, ap₂}
-use mathlib.Core.Bool.{Bool, true, false}
 use mathlib.Core.List.{List}
 use lib.ListN.{length}
 use lib.IntN.{ℤ}
 use Rattle.laws.specs.Choice.{pick}
-use Rattle.format.specs.Verdict.{Verdict, fine, andThen}
+use Rattle.format.specs.Verdict.{Verdict, fine}
 use Rattle.format.specs.Laws.Verdict.{all-fine}
-use Rattle.format.specs.Outcome.{Outcome, gives, filled, told}
+use Rattle.format.specs.Outcome.{gives, filled, told}
 use Rattle.format.specs.Format.{people}
 use Rattle.stable_theory.specs.Stable.Holding.{Same}
 use Rattle.stable_theory.specs.Repairs.Pairs.{PairsAnswer, Parted, Never}
@@ -18,8 +17,8 @@ use Rattle.matchings.specs.BookMarket.{market}
 use Rattle.matchings.specs.Matching.{vectorOf, checkMatching}
 use Rattle.matchings.specs.Extreme.{matchingOf}
 use Rattle.repairs.specs.Weights.{weightOf, checkWeighed}
-use Rattle.repairs.specs.Request.{askingMan, secondMan, forTwo, forOne, checkBoth, checkPairs}
-use Rattle.repairs.specs.Pairs.{pairsAnswerFor, ends, one, two, PairsRepair, pairsDistance, pairsEntries, pairsMatchingFor, pairsGainsFor}
+use Rattle.repairs.specs.Request.{askingMan, secondMan, forTwo, forOne, checkBoth}
+use Rattle.repairs.specs.Pairs.{pairsAnswerFor, ends, one, two, pairsDistance, pairsEntries, pairsMatchingFor, pairsGainsFor}
 use Rattle.repairs.specs.Pairs.{pairsReplyAfter, pairsMatchingAfter, pairsGainsAfter, requestReply, requestMatching, requestGains}
 use Rattle.repairs.specs.Pairs.{weightedRequestReply, weightedRequestMatching, weightedRequestGains}
 use Rattle.repairs.specs.Laws.SameWeights.{moved-same, after-same}

@@ -8,18 +8,13 @@ use Rattle.stable_theory.specs.Stable.Holding.{Same}
 use Rattle.stable_theory.specs.Stable.Alike.{Alike, alike-sym, same-alike, stable-alike}
 use Rattle.stable_theory.specs.Repairs.Repair.{weight}
 use Rattle.stable_theory.specs.Repairs.AnswerAlike.{weight-alike}
-use Rattle.stable_theory.specs.Repairs.Sides.{Side, upward, downward, EndsOn}
+use Rattle.stable_theory.specs.Repairs.Sides.{Side, ends-same}
 use Rattle.stable_theory.specs.Repairs.Pairs.{Sorted, Candidate, PairsAnswer, PairsRight, parted, never}
-
--- the same places end on the same side
-ends-same : (x : Side) {a b c d : ℕ} → a ≡ b → c ≡ d → EndsOn x a c → EndsOn x b d
-ends-same upward e f l = omega arith
-ends-same downward e f l = omega arith
 
 module _ {I J : Market} (A : Alike I J) {p q : ℕ → ℕ} (e : Same I p q) {s t : ℕ} (u : s < I .proposers .size) (v : t < I .proposers .size) (x y : Side) where
   sorted-alike : {k r : ℕ → ℕ} → Same I k r → Sorted x y I p s t k → Sorted x y J q s t r
   sorted-alike f K =
-      record { stable = stable-alike A f (K .stable); first = ends-same x (f s u) (e s u) (K .first); second = ends-same y (f t v) (e t v) (K .second) }
+      record { stable = stable-alike A f (K .stable); first = ends-same x _ _ _ _ (f s u) (e s u) (K .first); second = ends-same y _ _ _ _ (f t v) (e t v) (K .second) }
 
 module _ {I J : Market} (A : Alike I J) {p q : ℕ → ℕ} (e : Same I p q) {s t : ℕ} (u : s < I .proposers .size) (v : t < I .proposers .size) where
   on : {i : ℕ} → i < J .proposers .size → i < I .proposers .size

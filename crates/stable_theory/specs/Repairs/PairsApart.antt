@@ -11,7 +11,7 @@ use Rattle.stable_theory.specs.Stable.Holding.{Same, stable-same}
 use Rattle.stable_theory.specs.Stable.Lattice.{stable-min, stable-max}
 use Rattle.stable_theory.specs.Repairs.Repair.{Parts, IsDown, IsUp, down, up, moved}
 use Rattle.stable_theory.specs.Repairs.RepairLaws.{down-is, up-is}
-use Rattle.stable_theory.specs.Repairs.Moves.{moved-true, moved-false, moved-moved, down-there, up-there, down-between, up-between}
+use Rattle.stable_theory.specs.Repairs.Moves.{moved-true, moved-false, down-there, up-there, down-between, up-between}
 use Rattle.stable_theory.specs.Repairs.Sides.{Side, upward, downward}
 use Rattle.stable_theory.specs.Repairs.Pairs.{Sorted, Candidate, besideMoved}
 

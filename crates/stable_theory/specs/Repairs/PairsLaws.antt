@@ -1,6 +1,6 @@
 -- The candidate of a sort (W-207): there is one at most, it exists exactly where the sort is not empty, it is what is
 -- worked out, and it moves only whom every vector of the sort moves. Assumes nothing.
-use Prim.Native.Nat.{ℕ, _≤_, _<_}
+use Prim.Native.Nat.{ℕ, _≤_}
 use mathlib.Core.Path.{_≡_}
 use mathlib.Core.Bool.{true, false}
 use native.Mathlib.Omega.{arith}
@@ -11,7 +11,7 @@ use Rattle.stable_theory.specs.Stable.Market.{Market, Proper}
 use Rattle.stable_theory.specs.Stable.Vector.{Within, Holds, Stable}
 use Rattle.stable_theory.specs.Stable.Holding.{Same}
 use Rattle.stable_theory.specs.Least.StableTest.{isStable, test-stable, stable-test}
-use Rattle.stable_theory.specs.Repairs.Repair.{up, down, weight}
+use Rattle.stable_theory.specs.Repairs.Repair.{weight}
 use Rattle.stable_theory.specs.Repairs.RepairLaws.{down-settled, up-within}
 use Rattle.stable_theory.specs.Repairs.Moves.{MovesNoMore, weight-le}
 use Rattle.stable_theory.specs.Repairs.Sides.{Side, upward, downward, endsOn, ends-true, true-ends, apart-ends}

@@ -46,3 +46,8 @@ one-end upward upward new old l h = refl
 one-end upward downward new old l h = absurd (omega arith)
 one-end downward upward new old l h = absurd (omega arith)
 one-end downward downward new old l h = refl
+
+-- the same places end on the same side
+pub ends-same : (x : Side) (a b c d : ℕ) → a ≡ b → c ≡ d → EndsOn x a c → EndsOn x b d
+ends-same upward a b c d e f l = omega arith
+ends-same downward a b c d e f l = omega arith

@@ -1,5 +1,4 @@
 -- `same_pair` meets its contract: the men are compared, and then the women. Assumes nothing.
-use borrow.Author.Needs.{needs}
 use borrow.Author.Tests.{eq-eqb, ne-eqb}
 use Rattle.asked.proofs.asked.same_pair.Statement.{statement}
 use Rattle.asked.proofs.asked.same_pair.Tie as tie

@@ -1,7 +1,7 @@
 -- `apart` meets its contract: there is no candidate where a repair is not there, where the one up moves man t, or where
 -- the places of both are not stable; otherwise it is made of them. Assumes nothing.
 use Prim.Native.Nat.{ℕ, _<_}
-use mathlib.Core.Path.{_≡_, refl, sym}
+use mathlib.Core.Path.{_≡_, sym}
 use native.Mathlib.Omega.{arith}
 use denote.Ref.{now}
 use lib.ListN.{length}

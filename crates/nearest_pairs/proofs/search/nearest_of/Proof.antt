@@ -1,7 +1,5 @@
 -- `nearest_of` meets its contract: the four are tried in their order. Assumes nothing.
-use mathlib.Core.Path.{_∙_, ap}
 use borrow.Author.Needs.{needs}
-use Rattle.nearest_pairs.specs.Tried.{nearerOf}
 use Rattle.nearest_pairs.proofs.search.nearest_of.Statement.{statement}
 use Rattle.nearest_pairs.proofs.search.nearest_of.Tie as tie
 

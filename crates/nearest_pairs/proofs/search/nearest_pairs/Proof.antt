@@ -1,16 +1,9 @@
 -- `nearest_pairs` meets its contract: s and t are the numbers of the two men and w and v those of their women, the
 -- pushes on either side tell of the candidates of the four sorts, and the nearest of them is the answer. Assumes
 -- nothing.
-use Prim.Native.Nat.{ℕ, _≤_, _<_}
-use mathlib.Core.Path.{_≡_, refl, sym}
+use Prim.Native.Nat.{_<_}
 use native.Mathlib.Omega.{arith}
-use denote.Ref.{now}
-use lib.ListN.{length}
 use borrow.Author.Needs.{needs}
-use Rattle.laws.specs.Values.{vec}
-use Rattle.format.specs.Format.{largest}
-use Rattle.format.specs.Record.{Record, lent}
-use Rattle.nearest.specs.Nearest.{Placed}
 use Rattle.nearest.specs.Laws.Nearest.{placed-as, place-index, men-pushable, women-pushable}
 use Rattle.nearest_pairs.specs.Laws.Given.{found-up, found-down, shows-pairs}
 use Rattle.nearest_pairs.proofs.search.nearest_pairs.Statement.{statement}

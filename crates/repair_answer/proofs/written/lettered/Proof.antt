@@ -1,9 +1,5 @@
 -- `lettered` meets its contract: each letter's case. Assumes nothing.
-use mathlib.Core.Path.{sym, ap}
 use borrow.Author.Needs.{needs}
-use Rattle.nearest_pairs.specs.declared.answer.Letters.{Letters}
-use Rattle.format.specs.Outcome.{gives}
-use Rattle.repair_answer.specs.Shown.{pairsShown}
 use Rattle.repair_answer.proofs.written.lettered.Statement.{statement}
 use Rattle.repair_answer.proofs.written.lettered.Tie as tie
 

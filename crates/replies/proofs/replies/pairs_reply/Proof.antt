@@ -1,4 +1,4 @@
--- `pairs_reply` meets its contract: each arm is the case of `pairsReply`. Assumes nothing.
+-- `pairs_reply` meets its contract: each arm is the case of `twoLetterReply`. Assumes nothing.
 use borrow.Author.Needs.{needs}
 use Rattle.replies.proofs.replies.pairs_reply.Statement.{statement}
 use Rattle.replies.proofs.replies.pairs_reply.Tie as tie
