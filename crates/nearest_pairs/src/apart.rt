@@ -74,7 +74,8 @@ pub(crate) fn apart(
     ghost { Record }
     requires { λ R. ⌜ lent n mlists mranks wlists wranks ≡ R ⌝ }
     requires { λ R. ⌜ FromFine partial R × (n ≤ largest) × (t < n) ⌝ }
-    requires { λ R. ⌜ FoundWithin (marketIn R) (up .far) (vec (up .receivers)) × FoundWithin (marketIn R) (down .far) (vec (down .proposers)) ⌝ }
+    requires { λ R. ⌜ FoundWithin (marketIn R) (up .far) (vec (up .receivers)) ×
+        FoundWithin (marketIn R) (down .far) (vec (down .proposers)) ⌝ }
     requires { λ _. ⌜ Weighed n (now weights) ⌝ }
     ensures { λ R r. ⌜ BesideIs (marketIn R) (vec₀ weights) (vec men) t (up .far) (vec (up .receivers))
         (down .far) (vec (down .proposers)) r ⌝ }

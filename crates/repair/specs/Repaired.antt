@@ -52,7 +52,8 @@ abbrev pub pairsVerdict : (b m k : List ℕ) → TwoPairs → (room gainsRoom : 
 pairsVerdict b m k t room gainsRoom = andThen (checkWeighed b m k) (checkTwo (people b) m t room gainsRoom)
 
 -- The answer for two pairs after a check v, and the two buffers
-pub record PairsAfter (v : Verdict) (b m k : List ℕ) (t : TwoPairs) (out : List ℕ) (gains : List ℤ) (r : PairsAnswer) (out′ : List ℕ) (gains′ : List ℤ) : Type 0 where
+pub record PairsAfter (v : Verdict) (b m k : List ℕ) (t : TwoPairs) (out : List ℕ) (gains : List ℤ)
+    (r : PairsAnswer) (out′ : List ℕ) (gains′ : List ℤ) : Type 0 where
   pub reply : let a = pairsAnswerFor b (weightOf k) m (t .first .man .0) (t .second .man .0) in
       pairsOutcome r ≡ after v (pairsDistance b (weightOf k) m a)
   pub bytes : let a = pairsAnswerFor b (weightOf k) m (t .first .man .0) (t .second .man .0) in

@@ -17,7 +17,8 @@ use Rattle.matchings.specs.Laws.Entries.{nobody-most}
 use Rattle.matchings.specs.Laws.StableCheck.{fine-stable}
 use Rattle.repairs.specs.Laws.Request.{pair-11, pair-12}
 use Rattle.repairs.specs.Laws.PairsRequest.{either-held}
-use Rattle.repairs.specs.Request.{forTwo, forOne, checkTogether, checkPair, checkPairs, checkRequest, checkWeightedRequest, checkPairsRequest, checkWeightedPairs}
+use Rattle.repairs.specs.Request.{forTwo, forOne, checkTogether, checkPair, checkPairs}
+use Rattle.repairs.specs.Request.{checkRequest, checkWeightedRequest, checkPairsRequest, checkWeightedPairs}
 use Rattle.repairs.specs.Repair.{repairMatching, repairGains, weightedMatching, weightedGains}
 use Rattle.repairs.specs.Pairs.{requestReply, requestMatching, requestGains}
 use Rattle.repairs.specs.Pairs.{weightedRequestReply, weightedRequestMatching, weightedRequestGains}

@@ -19,9 +19,9 @@ use Rattle.repairs.specs.declared.answer.PairsAnswer.the-variants.{UpUp,
 use Rattle.repairs.specs.declared.answer.RequestAnswer.{RequestAnswer as Answered}
 use Rattle.repairs.specs.declared.answer.RequestAnswer.the-variants.{Pair, Pairs}
 use Rattle.repairs.specs.Weights.{weightOf, movedWeight}
-use Rattle.repairs.specs.Request.{askingMan, secondMan, forTwo, forOne, checkPairsRequest, checkWeightedPairs}
-use Rattle.repairs.specs.Repair.{gainsOf, RepairAnswer, repairOutcome}
-use Rattle.repairs.specs.Repair.{repairReply, repairMatching, repairGains, weightedReply, weightedMatching, weightedGains}
+use Rattle.repairs.specs.Request.{askingMan, secondMan, forTwo, forOne, checkRequest, checkWeightedRequest}
+use Rattle.repairs.specs.Request.{checkPairsRequest, checkWeightedPairs}
+use Rattle.repairs.specs.Repair.{gainsOf, RepairAnswer, repairOutcome, replyAfter, matchingAfter, gainsAfter}
 
 -- The answer for the pairs of students s and t: of the four sorts' candidates the nearest, at equal distance the first
 -- in the order UU, UD, DU, DD; or `Never`, that no stable matching lacks both pairs
@@ -76,29 +76,6 @@ pairsGainsAfter v c b m q gains =
     let a = pairsAnswerFor b c m (askingMan q) (secondMan q) in
     filled v (pairsEntries b a) (pairsGainsFor b m a) gains
 
--- where every student counts 1
-abbrev pub pairsReply : List ℕ → List ℕ → List ℕ → List ℕ → List ℤ → Outcome PairsRepair
-pairsReply b m q out gains = pairsReplyAfter (checkPairsRequest b m q (length out) (length gains)) (λ i. 1) b m q
-
-abbrev pub pairsMatching : List ℕ → List ℕ → List ℕ → List ℕ → List ℤ → List ℕ
-pairsMatching b m q out gains = pairsMatchingAfter (checkPairsRequest b m q (length out) (length gains)) (λ i. 1) b m q out
-
-abbrev pub pairsGains : List ℕ → List ℕ → List ℕ → List ℕ → List ℤ → List ℤ
-pairsGains b m q out gains = pairsGainsAfter (checkPairsRequest b m q (length out) (length gains)) (λ i. 1) b m q gains
-
--- and where the weights k are given
-abbrev pub weightedPairsReply : List ℕ → List ℕ → List ℕ → List ℕ → List ℕ → List ℤ → Outcome PairsRepair
-weightedPairsReply b m k q out gains =
-    pairsReplyAfter (checkWeightedPairs b m k q (length out) (length gains)) (weightOf k) b m q
-
-abbrev pub weightedPairsMatching : List ℕ → List ℕ → List ℕ → List ℕ → List ℕ → List ℤ → List ℕ
-weightedPairsMatching b m k q out gains =
-    pairsMatchingAfter (checkWeightedPairs b m k q (length out) (length gains)) (weightOf k) b m q out
-
-abbrev pub weightedPairsGains : List ℕ → List ℕ → List ℕ → List ℕ → List ℕ → List ℤ → List ℤ
-weightedPairsGains b m k q out gains =
-    pairsGainsAfter (checkWeightedPairs b m k q (length out) (length gains)) (weightOf k) b m q gains
-
 -- The answer to any request: for the pair that it names, or for two
 pub data RequestAnswer : Type 0 where
   one : RepairAnswer → RequestAnswer
@@ -109,26 +86,51 @@ abbrev pub requestOutcome : Answered → Outcome RequestAnswer
 requestOutcome (Pair a) = told one (repairOutcome a)
 requestOutcome (Pairs a) = told two (pairsOutcome a)
 
--- The reply to any request, and the two buffers afterwards: those for two pairs, or those for one
+-- The reply to any request after the check v of two pairs and u of one, and the two buffers afterwards: those of the
+-- two pairs, or those of the one
+abbrev pub eitherReply : (v u : Verdict) → (ℕ → ℕ) → List ℕ → List ℕ → List ℕ → Outcome RequestAnswer
+eitherReply v u c b m q = pick (forTwo q) (told two (pairsReplyAfter v c b m q)) (told one (replyAfter u c b m (forOne q)))
+
+abbrev pub eitherMatching : (v u : Verdict) → (ℕ → ℕ) → List ℕ → List ℕ → List ℕ → List ℕ → List ℕ
+eitherMatching v u c b m q out = pick (forTwo q) (pairsMatchingAfter v c b m q out) (matchingAfter u c b m (forOne q) out)
+
+abbrev pub eitherGains : (v u : Verdict) → (ℕ → ℕ) → List ℕ → List ℕ → List ℕ → List ℤ → List ℤ
+eitherGains v u c b m q gains = pick (forTwo q) (pairsGainsAfter v c b m q gains) (gainsAfter u c b m (forOne q) gains)
+
+-- where every student counts 1
 abbrev pub requestReply : List ℕ → List ℕ → List ℕ → List ℕ → List ℤ → Outcome RequestAnswer
 requestReply b m q out gains =
-    pick (forTwo q) (told two (pairsReply b m q out gains)) (told one (repairReply b m (forOne q) out gains))
+    let v = checkPairsRequest b m q (length out) (length gains) in
+    let u = checkRequest b m (forOne q) (length out) (length gains) in
+    eitherReply v u (λ i. 1) b m q
 
 abbrev pub requestMatching : List ℕ → List ℕ → List ℕ → List ℕ → List ℤ → List ℕ
-requestMatching b m q out gains = pick (forTwo q) (pairsMatching b m q out gains) (repairMatching b m (forOne q) out gains)
+requestMatching b m q out gains =
+    let v = checkPairsRequest b m q (length out) (length gains) in
+    let u = checkRequest b m (forOne q) (length out) (length gains) in
+    eitherMatching v u (λ i. 1) b m q out
 
 abbrev pub requestGains : List ℕ → List ℕ → List ℕ → List ℕ → List ℤ → List ℤ
-requestGains b m q out gains = pick (forTwo q) (pairsGains b m q out gains) (repairGains b m (forOne q) out gains)
+requestGains b m q out gains =
+    let v = checkPairsRequest b m q (length out) (length gains) in
+    let u = checkRequest b m (forOne q) (length out) (length gains) in
+    eitherGains v u (λ i. 1) b m q gains
 
--- with the weights k
+-- and where the weights k are given
 abbrev pub weightedRequestReply : List ℕ → List ℕ → List ℕ → List ℕ → List ℕ → List ℤ → Outcome RequestAnswer
 weightedRequestReply b m k q out gains =
-    pick (forTwo q) (told two (weightedPairsReply b m k q out gains)) (told one (weightedReply b m k (forOne q) out gains))
+    let v = checkWeightedPairs b m k q (length out) (length gains) in
+    let u = checkWeightedRequest b m k (forOne q) (length out) (length gains) in
+    eitherReply v u (weightOf k) b m q
 
 abbrev pub weightedRequestMatching : List ℕ → List ℕ → List ℕ → List ℕ → List ℕ → List ℤ → List ℕ
 weightedRequestMatching b m k q out gains =
-    pick (forTwo q) (weightedPairsMatching b m k q out gains) (weightedMatching b m k (forOne q) out gains)
+    let v = checkWeightedPairs b m k q (length out) (length gains) in
+    let u = checkWeightedRequest b m k (forOne q) (length out) (length gains) in
+    eitherMatching v u (weightOf k) b m q out
 
 abbrev pub weightedRequestGains : List ℕ → List ℕ → List ℕ → List ℕ → List ℕ → List ℤ → List ℤ
 weightedRequestGains b m k q out gains =
-    pick (forTwo q) (weightedPairsGains b m k q out gains) (weightedGains b m k (forOne q) out gains)
+    let v = checkWeightedPairs b m k q (length out) (length gains) in
+    let u = checkWeightedRequest b m k (forOne q) (length out) (length gains) in
+    eitherGains v u (weightOf k) b m q gains

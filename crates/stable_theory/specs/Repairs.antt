@@ -13,6 +13,7 @@ pub mod BothSides
 pub mod Weights
 pub mod Sides
 pub mod Pairs
+pub mod PairsSorted
 pub mod PairsDown
 pub mod PairsApart
 pub mod PairsLaws

@@ -7,12 +7,13 @@ use mathlib.Core.List.{List}
 use native.Mathlib.Omega.{arith}
 use lib.Dec.{eqb}
 use lib.ListN.{length}
-use borrow.Author.Tests.{eq-eqb, ne-eqb}
+use borrow.Author.Tests.{eq-eqb}
 use Rattle.laws.specs.Choice.{both, split}
 use Rattle.format.specs.declared.people.Pair.{Pair}
 use Rattle.format.specs.Format.{pairRow, entryIn}
 use Rattle.format.specs.Laws.Rows.{entries-same, pair-first, pair-second, pair-long}
-use Rattle.repairs.specs.Request.{askingMan, askingWoman, forTwo, forOne}
+use Rattle.repairs.specs.Request.{askingMan, askingWoman}
+use Rattle.repairs.specs.Laws.PairsRequest.{other-one}
 use Rattle.asked.specs.declared.asked.Asked.the-variants.{Request, Nobody}
 use Rattle.asked.specs.declared.asked.Requested.the-variants.{One, Two}
 use Rattle.asked.specs.Asked.{Asks}
@@ -33,16 +34,13 @@ pub record PairAt (q : List ℕ) (x y : ℕ) (p : Pair) : Type 0 where
 
 module _ (q : List ℕ) where
   -- it has not four entries: it is for one pair, as it stands
-  other-for : (length q ≡ 4 → ⊥) → (forTwo q ≡ false) × (forOne q ≡ q)
-  other-for h = (rw (ne-eqb (length q) 4 h), rw (ne-eqb (length q) 4 h))
-
   pub asks-pair : length q ≡ 2 → {p : Pair} → PairAt q 0 1 p → Asks q (One (Request p))
   asks-pair e P =
-      let (f, g) = other-for (λ z. omega arith) in
+      let (f, g) = other-one q (λ z. omega arith) in
       (f, rw g (row-of q e (P .man) (P .woman)))
 
   pub asks-nobody : (length q ≡ 2 → ⊥) → (length q ≡ 4 → ⊥) → Asks q (One Nobody)
-  asks-nobody h k = let (f, g) = other-for k in (f, rw g h)
+  asks-nobody h k = let (f, g) = other-one q k in (f, rw g h)
 
   -- it has four: it is for two pairs, or for the pair that it names twice
   module _ (e : length q ≡ 4) {p r : Pair} (P : PairAt q 0 1 p) (R : PairAt q 2 3 r) where

@@ -5,10 +5,10 @@ use mathlib.Core.Path.{_≡_}
 use native.Mathlib.Omega.{arith}
 use Rattle.stable_theory.specs.Stable.Market.{Market, Proper}
 use Rattle.stable_theory.specs.Stable.Holding.{hold-same, hold-at}
-use Rattle.stable_theory.specs.Repairs.Repair.{Parts, IsDown, down, weight}
+use Rattle.stable_theory.specs.Repairs.Repair.{IsDown, down, weight}
 use Rattle.stable_theory.specs.Repairs.RepairLaws.{down-is, down-exists}
 use Rattle.stable_theory.specs.Repairs.Sides.{downward}
-use Rattle.stable_theory.specs.Repairs.Pairs.{Sorted}
+use Rattle.stable_theory.specs.Repairs.PairsSorted.{first-parted}
 use Rattle.stable_theory.specs.Repairs.PairsDown.{both-one, both-two, sorted-second}
 use Rattle.pushing.specs.Push.{Pushable}
 use Rattle.nearest.specs.Tried.{noRepair, Tries}
@@ -19,10 +19,6 @@ pub tries-none :
     {I : Market} {c p : ℕ → ℕ} {s : ℕ} {v u : ℕ → ℕ} {far : ℕ} → ((k : ℕ → ℕ) → weight I c p k < noRepair) →
     Tries I c p s noRepair v u far → noRepair ≤ far → (d : ℕ → ℕ) → IsDown I p s d → ⊥
 tries-none most T z d D = omega (arith, T .further z d D, most d)
-
--- with both worse off at or after p, the first pair is parted
-sorted-parts : {I : Market} {p k : ℕ → ℕ} {s t : ℕ} → Sorted downward downward I p s t k → Parts I p s k
-sorted-parts K = record { stable = K .stable; without = λ e. omega (arith, K .first) }
 
 -- s and t are placed in the stable vector p, and s is pushed on
 module _ {I : Market} (M : Proper I) {p q : ℕ → ℕ} {s t : ℕ} (S : Pushable I p q s) (T : Pushable I p q t)
@@ -35,7 +31,7 @@ module _ {I : Market} (M : Proper I) {p q : ℕ → ℕ} {s t : ℕ} (S : Pushab
         repair = λ l. absurd (omega arith);
         mirror = λ l. absurd (omega arith);
         none = λ g K le.
-            tries-none (most p) A z (down I p s) (down-is M (S .stable) h (down-exists M (S .stable) h (sorted-parts K) le));
+            tries-none (most p) A z (down I p s) (down-is M (S .stable) h (down-exists M (S .stable) h (first-parted downward downward K) le));
       }
 
   module _ (z : far < noRepair) where
@@ -64,5 +60,5 @@ module _ {I : Market} (M : Proper I) {p q : ℕ → ℕ} {s t : ℕ} (S : Pushab
           mirror = λ l. B .mirror l;
           none = λ g K le.
               let L = sorted-second (S .proposer) (T .proposer) D e K in
-              tries-none (most v) B g (down I v t) (down-is M P h (down-exists M P h L (D .first (sorted-parts K) le)));
+              tries-none (most v) B g (down I v t) (down-is M P h (down-exists M P h L (D .first (first-parted downward downward K) le)));
         }

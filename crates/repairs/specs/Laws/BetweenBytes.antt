@@ -73,18 +73,19 @@ moves-weight b c m r k f = weight-le (market b) c (womanOf m) (womanOf r) (woman
 
 -- a pair of s in m, and a stable matching k that parts it on a side
 module _ {b m : List ℕ} (S : StableIn b m) {s : ℕ} (P : PairIn b m s) (side : Side) {k : List ℕ} (K : PartsOn side b m s k) where
-  -- k is a stable matching, and without the pair
+  -- k is a stable matching
   other : StableIn b k
   other = fine-stable b k .0 (K .stable)
-
-  parted : Parts (market b) (vectorOf b m) s (vectorOf b k)
-  parted =
-      without-parts S (P .student) k
-      (record { stable = K .stable; without = λ e. ends-apart side (K .ends) (ap (manRank b s) e) })
 
   -- in vectors too the asking student is better off, or worse off
   pub ends-vector : EndsOn side (vectorOf b k s) (vectorOf b m s)
   ends-vector = rw (place-rank (other .matching) (P .student), place-rank (S .matching) (P .student)) (K .ends)
+
+  -- so k is without the pair
+  parted : Parts (market b) (vectorOf b m) s (vectorOf b k)
+  parted =
+      without-parts S (P .student) k
+      (record { stable = K .stable; without = λ e. ends-apart side (K .ends) (ap (manRank b s) e) })
 
 -- a stable matching without the pair parts it on one side
 pub without-side :

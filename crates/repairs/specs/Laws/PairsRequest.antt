@@ -1,19 +1,18 @@
 -- Requests for two pairs: what a request for the pairs of two students names, that it is not refused, and the same pair
 -- twice. Assumes nothing.
 use Prim.Native.Nat.{ℕ, _≤_}
-use mathlib.Core.Path.{_≡_, refl, sym, _∙_}
+use mathlib.Core.Path.{_≡_, refl, sym}
 use mathlib.Core.Bool.{Bool, true, false}
 use mathlib.Core.List.{List, _++_}
 use lib.ListN.{length}
 use borrow.Author.Tests.{eq-eqb, ne-eqb}
 use Rattle.laws.specs.Choice.{pick}
 use Rattle.format.specs.Verdict.{Verdict, fine}
-use Rattle.format.specs.Laws.Verdict.{goes-on}
 use Rattle.format.specs.Outcome.{refusal, after, filled, told}
 use Rattle.format.specs.Laws.Outcome.{refused-held}
 use Rattle.format.specs.Format.{people, entryIn, pairRow}
 use Rattle.matchings.specs.Matching.{womanOf}
-use Rattle.repairs.specs.Request.{askingMan, askingWoman, secondMan, secondWoman, forTwo, forOne, checkTogether, checkPair, checkPairs, checkBoth}
+use Rattle.repairs.specs.Request.{askingMan, askingWoman, secondMan, secondWoman, forTwo, forOne, checkPairs, checkBoth}
 use Rattle.repairs.specs.Repair.{RepairAnswer}
 use Rattle.repairs.specs.Pairs.{PairsRepair, one, two}
 use Rattle.repairs.specs.Laws.Request.{together-fine, buffers-fine}
@@ -67,10 +66,16 @@ unfolding checkPairs
 both-fine b m s t {v} e P Q {room} {gainsRoom} h k =
     let w = womanOf m s in
     let x = womanOf m t in
-    rw (row-first s w t x, row-second s w t x, row-third s w t x, row-fourth s w t x)
-    (goes-on v _ e ∙ goes-on (checkTogether (people b) m s w) (checkPair (people b) m t x room gainsRoom) (together-fine (people b) m s (P .student) (P .mentor))
-    ∙ goes-on (checkTogether (people b) m t x) _ (together-fine (people b) m t (Q .student) (Q .mentor))
-    ∙ buffers-fine (people b) room gainsRoom h k)
+    rw (
+      row-first s w t x,
+      row-second s w t x,
+      row-third s w t x,
+      row-fourth s w t x,
+      e,
+      together-fine (people b) m s (P .student) (P .mentor),
+      together-fine (people b) m t (Q .student) (Q .mentor),
+      buffers-fine (people b) room gainsRoom h k,
+    )
 
 -- a refusal, for two pairs or for one, leaves the buffer as it was
 pub either-held :

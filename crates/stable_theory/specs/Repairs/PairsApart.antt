@@ -9,11 +9,12 @@ use Rattle.stable_theory.specs.Stable.Market.{Market, Proper}
 use Rattle.stable_theory.specs.Stable.Vector.{Within, Holds, Stable}
 use Rattle.stable_theory.specs.Stable.Holding.{Same, stable-same}
 use Rattle.stable_theory.specs.Stable.Lattice.{stable-min, stable-max}
-use Rattle.stable_theory.specs.Repairs.Repair.{Parts, IsDown, IsUp, down, up, moved}
+use Rattle.stable_theory.specs.Repairs.Repair.{IsDown, IsUp, down, up, moved}
 use Rattle.stable_theory.specs.Repairs.RepairLaws.{down-is, up-is}
 use Rattle.stable_theory.specs.Repairs.Moves.{moved-true, moved-false, down-there, up-there, down-between, up-between}
 use Rattle.stable_theory.specs.Repairs.Sides.{Side, upward, downward}
 use Rattle.stable_theory.specs.Repairs.Pairs.{Sorted, Candidate, besideMoved}
+use Rattle.stable_theory.specs.Repairs.PairsSorted.{first-parted, second-parted, sorted-exchanged}
 
 -- what holds of the place in u where u moves, and of that in d elsewhere
 pub beside-cases :
@@ -29,13 +30,6 @@ beside-within {I} p {u} {d} U D =
 
 -- s holds w and t holds w′ under the stable vector p
 module _ {I : Market} (M : Proper I) {p : ℕ → ℕ} {s t w w′ : ℕ} (P : Stable I p) (h : Holds I p s w) (h′ : Holds I p t w′) where
-  -- a vector of UD is without either pair
-  first-parted : {k : ℕ → ℕ} → Sorted upward downward I p s t k → Parts I p s k
-  first-parted K = record { stable = K .stable; without = λ e. omega (arith, K .first) }
-
-  second-parted : {k : ℕ → ℕ} → Sorted upward downward I p s t k → Parts I p t k
-  second-parted K = record { stable = K .stable; without = λ e. omega (arith, K .second) }
-
   module _ {u d : ℕ → ℕ} (U : IsUp I p s u) (D : IsDown I p t d) where
     -- s is better off
     pub beside-first : besideMoved p u d s < p s
@@ -55,10 +49,10 @@ module _ {I : Market} (M : Proper I) {p : ℕ → ℕ} {s t w w′ : ℕ} (P : S
     module _ {k : ℕ → ℕ} (K : Sorted upward downward I p s t k) where
       -- each lies between p and k: so u moves only whom k has better off, and d only whom k has worse off
       above : (i : ℕ) → i < I .proposers .size → (min (p i) (k i) ≤ u i) × (u i ≤ p i)
-      above = up-between M P h (first-parted K) U (K .first)
+      above = up-between M P h (first-parted upward downward K) U (K .first)
 
       below : (i : ℕ) → i < I .proposers .size → (p i ≤ d i) × (d i ≤ max (p i) (k i))
-      below = down-between M P h′ (second-parted K) D (K .second)
+      below = down-between M P h′ (second-parted upward downward K) D (K .second)
 
       beside-joined : Same I (λ i. max (u i) (min (d i) (k i))) (besideMoved p u d)
       beside-joined i l =
@@ -87,14 +81,11 @@ module _ {I : Market} (M : Proper I) {p : ℕ → ℕ} {s t w w′ : ℕ} (P : S
   -- and it is what is worked out
   pub beside-exists : {k : ℕ → ℕ} → Sorted upward downward I p s t k → Candidate upward downward I p s t (besideMoved p (up I p s) (down I p t))
   beside-exists K =
-      let U = up-is M P h (up-there M P h (first-parted K) (K .first)) in
-      let D = down-is M P h′ (down-there M P h′ (second-parted K) (K .second)) in
+      let U = up-is M P h (up-there M P h (first-parted upward downward K) (K .first)) in
+      let D = down-is M P h′ (down-there M P h′ (second-parted upward downward K) (K .second)) in
       beside-candidate U D K
 
--- the sort DU is UD with the pairs exchanged
-pub sorted-exchanged : {I : Market} {p : ℕ → ℕ} {s t : ℕ} (x y : Side) {k : ℕ → ℕ} → Sorted x y I p s t k → Sorted y x I p t s k
-sorted-exchanged x y K = record { stable = K .stable; first = K .second; second = K .first }
-
+-- the candidate of DU is that of UD with the pairs exchanged
 pub candidate-exchanged : {I : Market} {p : ℕ → ℕ} {s t : ℕ} (x y : Side) {r : ℕ → ℕ} → Candidate x y I p s t r → Candidate y x I p t s r
 candidate-exchanged x y R =
     record { sorted = sorted-exchanged x y (R .sorted); between = λ K i l. R .between (sorted-exchanged y x K) i l }

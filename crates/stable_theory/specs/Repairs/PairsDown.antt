@@ -18,6 +18,7 @@ use Rattle.stable_theory.specs.Repairs.RepairLaws.{down-is, down-exists,
 use Rattle.stable_theory.specs.Repairs.Moves.{moved-true, moved-false}
 use Rattle.stable_theory.specs.Repairs.Sides.{upward, downward}
 use Rattle.stable_theory.specs.Repairs.Pairs.{Sorted, Candidate, IsDownBoth, downBoth, upBoth}
+use Rattle.stable_theory.specs.Repairs.PairsSorted.{first-parted}
 
 -- s is pushed on, which gives d
 module _ {I : Market} {p d : ℕ → ℕ} {s t : ℕ} (u : s < I .proposers .size) (v : t < I .proposers .size) (D : IsDown I p s d) where
@@ -25,17 +26,13 @@ module _ {I : Market} {p d : ℕ → ℕ} {s t : ℕ} (u : s < I .proposers .siz
   worse : p s < d s
   worse = omega (arith, D .parts .without, D .after s u)
 
-  -- where both are worse off, both pairs are parted
-  sorted-first : {k : ℕ → ℕ} → Sorted downward downward I p s t k → Parts I p s k
-  sorted-first K = record { stable = K .stable; without = λ e. omega (arith, K .first) }
-
   -- that is all, if t is moved too
   pub both-one : (d t ≡ p t → ⊥) → IsDownBoth I p s t d
   both-one ne =
       record {
         sorted = record { stable = D .parts .stable; first = worse; second = omega (arith, ne, D .after t v) };
         after = D .after;
-        first = λ K le. D .first (sorted-first K) le;
+        first = λ K le. D .first (first-parted downward downward K) le;
       }
 
   -- else t is still to be pushed on, from there
@@ -52,7 +49,7 @@ module _ {I : Market} {p d : ℕ → ℕ} {s t : ℕ} (u : s < I .proposers .siz
             second = omega (arith, R .parts .without, R .after t v);
           };
           after = λ i l. omega (arith, D .after i l, R .after i l);
-          first = λ K le. R .first (sorted-second K) (D .first (sorted-first K) le);
+          first = λ K le. R .first (sorted-second K) (D .first (first-parted downward downward K) le);
         }
 
 -- the max of the given vector and one of DD is of DD
@@ -75,7 +72,7 @@ module _ {I : Market} (M : Proper I) {p : ℕ → ℕ} {s t w w′ : ℕ} (P : S
   down-both-exists {k} K le =
       let u = h .pair .proposer in
       let v = h′ .pair .proposer in
-      let D = down-is M P h (down-exists M P h (record { stable = K .stable; without = λ e. omega (arith, K .first) }) le) in
+      let D = down-is M P h (down-exists M P h (first-parted downward downward K) le) in
       tested (moved p (down I p s) t)
       (λ b. rw b (both-one u v D (moved-true p (down I p s) b)))
       (λ b.
@@ -83,7 +80,7 @@ module _ {I : Market} (M : Proper I) {p : ℕ → ℕ} {s t w w′ : ℕ} (P : S
       let g = hold-same p (down I p s) e h′ in
       let S = D .parts .stable in
       let L = sorted-second u v D e K in
-      rw b (both-two u v D e (down-is M S g (down-exists M S g L (D .first (sorted-first u v D K) le)))))
+      rw b (both-two u v D e (down-is M S g (down-exists M S g L (D .first (first-parted downward downward K) le)))))
 
   -- `downBoth` is settled, stable or not
   pub down-both-settled : Settled I (downBoth I p s t)

@@ -17,7 +17,8 @@ use Rattle.stable_theory.specs.Repairs.Moves.{MovesNoMore, weight-le}
 use Rattle.stable_theory.specs.Repairs.Sides.{Side, upward, downward, endsOn, ends-true, true-ends, apart-ends}
 use Rattle.stable_theory.specs.Repairs.Pairs.{PartsBoth, Sorted, Candidate, candidate, isThere}
 use Rattle.stable_theory.specs.Repairs.PairsDown.{down-both-candidate, down-both-exists, down-both-settled, up-both-exists, up-both-within, max-sorted}
-use Rattle.stable_theory.specs.Repairs.PairsApart.{beside-exists, beside-within, sorted-exchanged, candidate-exchanged}
+use Rattle.stable_theory.specs.Repairs.PairsApart.{beside-exists, beside-within, candidate-exchanged}
+use Rattle.stable_theory.specs.Repairs.PairsSorted.{sorted-exchanged}
 
 -- a stable vector without both pairs is of a sort
 pub parts-sorted : {I : Market} {p : ℕ → ℕ} {s t : ℕ} {k : ℕ → ℕ} → PartsBoth I p s t k → (x : Side) × (y : Side) × Sorted x y I p s t k
