@@ -32,13 +32,14 @@ extern "C" {
 /* The version of this interface. The second number rises where something is added, the first where a program that was
  * written for the version before may have to be changed. */
 #define PLACEMENT_VERSION_MAJOR 2
-#define PLACEMENT_VERSION_MINOR 2
+#define PLACEMENT_VERSION_MINOR 3
 
 /* The largest of each over all books: buffers of these sizes are always long enough. */
 #define PLACEMENT_LARGEST_N 64                /* students, and mentors: bytes of a matching, entries of the gains */
 #define PLACEMENT_LARGEST_BOOK 8706           /* bytes of a book of either edition */
 #define PLACEMENT_LARGEST_SHEET 718           /* bytes of a sheet */
 #define PLACEMENT_LARGEST_WEIGHTED_SHEET 913  /* bytes of a weighted sheet: totals up to 64 * 255 = 16,320 */
+#define PLACEMENT_LARGEST_MOVES 58062         /* bytes of a sheet with moves: 64 * 64 lines of 14 more than a sheet */
 #define PLACEMENT_LARGEST_ROTATION_COUNT 2016 /* rotations, n(n - 1)/2: bytes of a set */
 #define PLACEMENT_LARGEST_ROTATION_LIST 10080 /* bytes of a list of rotations: five for each of so many */
 
@@ -54,6 +55,7 @@ extern "C" {
 #define PLACEMENT_STACK_BOOKS 5120       /* check_book, book_size, write_book, student_list, mentor_list */
 #define PLACEMENT_STACK_MATCHINGS 45056  /* check_matching, the extremes, rotation_count; repair, repair_mentor, grade,
                                             sheet and their weighted calls */
+#define PLACEMENT_STACK_MOVES 50176      /* moves */
 #define PLACEMENT_STACK_ROTATIONS 106496 /* rotations, precedes, set_to_matching, matching_to_set: the largest */
 
 /* The rules by number. Beside each: when it is broken, and the place given, 0 where none is said. */
@@ -196,6 +198,15 @@ struct placement_reply placement_matching_to_set(const uint8_t *book, size_t boo
  * the last directory pair, offset and length, two bytes each, low byte first; but never before the end of the
  * directory, 2 + 8n. Where the input has fewer bytes, all of it is the book. What follows is the matching. */
 struct placement_reply placement_sheet(const uint8_t *input, size_t input_len, uint8_t *out, size_t out_len);
+
+/* The sheet with the moves of each repair, as the moves program prints it, to out. The input is that of placement_sheet,
+ * cut in the same way. Line one and the line of each student are those of the sheet. Under a line with U or D there is
+ * a line for each student whom that repair moves, the lowest number first: a space, the student, his old mentor, his
+ * new mentor and the places gained with their sign, `+` or `-`, as in ` 5 2 4 +1`. One space parts fields. They are the
+ * students whose gains placement_repair gives for the pair as other than 0, as many as the distance. Under a line with
+ * F or N there is none.
+ * value: bytes written. Refused: 14 only; otherwise as placement_sheet. */
+struct placement_reply placement_moves(const uint8_t *input, size_t input_len, uint8_t *out, size_t out_len);
 
 /* The repair of one pair, or of two, where each student has a weight: as placement_repair, with the total weight of the
  * students moved in place of their number. The repair of the smaller total is given, up when equal, of two pairs the

@@ -55,8 +55,8 @@ fn run_in(
     print_text(b"\n");
 }
 
-// Makes a call with what it takes of the two numbers, the parts x, y, z, v and the buffers. From 20 on it is the
-// weighted repair by a mentor's number. A call by her number takes the low byte of the first.
+// Makes a call with what it takes of the two numbers, the parts x, y, z, v and the buffers. From 21 on it is the sheet
+// with those whom each repair moves. A call by a mentor's number takes the low byte of the first.
 fn make(
     call: u8,
     first: usize,
@@ -89,6 +89,7 @@ fn make(
         17 => placement::placement_weighted_grade(x, y, z),
         18 => placement::placement_weighted_sheet(x, out),
         19 => placement::placement_repair_mentor(x, y, (first % 256) as u8, out, gains),
-        _ => placement::placement_weighted_repair_mentor(x, y, z, (first % 256) as u8, out, gains),
+        20 => placement::placement_weighted_repair_mentor(x, y, z, (first % 256) as u8, out, gains),
+        _ => placement::placement_moves(x, out),
     }
 }

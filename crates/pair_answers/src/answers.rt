@@ -1,7 +1,9 @@
-// The letter and the distance of the answer for each pair of a stable matching, the grade, and the number of rotations.
+// The letter and the distance of the answer for each pair of a stable matching, the grade, and the groups of men whose
+// pairs have the same repair.
 use crate::robustness::grade_of;
 use format::Instance;
 use matchings::Places;
+use pair_groups::Groups;
 use pair_groups::group;
 use pair_measures::fill_answers;
 use pair_measures::measure;
@@ -16,15 +18,15 @@ ghost use Rattle.instances.specs.Usable.{Usable};
 ghost use Rattle.nearest.specs.Nearest.{GivenIn, BothWeighed};
 ghost use Rattle.pair_answers.specs.Answered.{PairsAnswered};
 
-// The grade of a matching, and the number of rotations.
+// The grade of a matching, and the groups of men whose pairs have the same repair, with the number of rotations.
 pub struct Summary {
     pub grade: Grade,
-    pub rotations: usize,
+    pub groups: Groups,
 }
 
-// The letter and the distance of the answer for each pair, to the fronts of the two slices, the grade and the number of
-// rotations, where `weights` has the weight of each man and `wweights` that of each woman's man. One push up and one
-// down serve all men whose pairs have the same repair. A man who is alone has no pair: the slices have F and 0 for him.
+// The letter and the distance of the answer for each pair, to the fronts of the two slices, the grade and the groups,
+// where `weights` has the weight of each man and `wweights` that of each woman's man. One push up and one down serve
+// all men whose pairs have the same repair. A man who is alone has no pair: the slices have F and 0 for him.
 pub fn answer_pairs<'a>(
     n: usize,
     mlists: &'a [u16],
@@ -68,6 +70,6 @@ pub fn answer_pairs<'a>(
     fill_answers(n, &down, &up, &below, &above, letters, distances);
     Summary {
         grade: grade_of(letters, distances, weights, n),
-        rotations: groups.rotations,
+        groups,
     }
 }

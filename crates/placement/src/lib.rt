@@ -27,6 +27,7 @@ pub use rotation_calls::placement_rotation_count;
 pub use rotation_calls::placement_rotations;
 pub use set_calls::placement_matching_to_set;
 pub use set_calls::placement_set_to_matching;
+pub use sheet_calls::placement_moves;
 pub use sheet_calls::placement_sheet;
 pub use weighted_calls::placement_weighted_grade;
 pub use weighted_calls::placement_weighted_repair;

@@ -51,6 +51,6 @@ pub fn put_answers<'a>(
     );
     let fixed = count_fixed(n, his, &letters[..]);
     let grade = all.grade;
-    let end = put_top(text, 0, n, all.rotations, fixed, grade);
+    let end = put_top(text, 0, n, all.groups.rotations, fixed, grade);
     put_lines(text, end, n, his, &letters[..], &distances[..])
 }

@@ -24,7 +24,7 @@ fn is_fixed(his: &[u8], man: Man, letter: u8) -> bool
 }
 
 // How many of n men are in a fixed pair. It is counted as a byte, so that the compiler takes many men at a time.
-pub(crate) fn count_fixed(n: usize, his: &[u8], letters: &[u8]) -> usize
+pub fn count_fixed(n: usize, his: &[u8], letters: &[u8]) -> usize
     requires { ⌜ (n ≤ length (now his)) × (n ≤ length (now letters)) × (n ≤ largest) ⌝ }
     ensures { λ r. ⌜ r ≡ fixedAmong n (now₀ his) (vec₀ letters) ⌝ }
 {

@@ -3,3 +3,4 @@ mod answers;
 mod fixed;
 
 pub use answers::put_answers;
+pub use fixed::count_fixed;

@@ -43,7 +43,7 @@ pub fn write_weighted_sheet(input: &[u8], out: &mut [u8]) -> Counted
 }
 
 // Copies a sheet to the front of `out`, or refuses by 14.
-fn copy_out(sheet: &[u8], out: &mut [u8]) -> Counted
+pub fn copy_out(sheet: &[u8], out: &mut [u8]) -> Counted
     ensures reply { λ r. ⌜ countOutcome r ≡ replyWith (now₀ sheet) (length (now₀ out)) ⌝ }
     ensures bytes { λ _. ⌜ now₁ out ≡ bufferWith (now₀ sheet) (now₀ out) ⌝ }
 {

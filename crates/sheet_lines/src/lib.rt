@@ -2,5 +2,6 @@
 mod calls;
 mod sheet;
 
+pub use calls::copy_out;
 pub use calls::write_sheet;
 pub use calls::write_weighted_sheet;

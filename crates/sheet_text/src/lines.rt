@@ -84,7 +84,7 @@ fn put_alone(out: &mut [u8], at: usize, man: Man) -> usize
 }
 
 // The line of a man: that of his pair, or that of one who is alone.
-fn put_line(out: &mut [u8], at: usize, his: &[u8], man: Man, letter: u8, distance: u32) -> usize
+pub fn put_line(out: &mut [u8], at: usize, his: &[u8], man: Man, letter: u8, distance: u32) -> usize
     requires { ⌜ (man .0 < length (now his)) × FiveDigits distance ×
         (at + length (studentLine (man .0) (entryIn (now his) (man .0)) letter distance) ≤ length (now out)) ⌝ }
     ensures { λ r. ⌜ Put (now₀ out) at (studentLine (man .0) (entryIn (now₀ his) (man .0)) letter distance) (now₁ out) r ⌝ }
@@ -133,7 +133,7 @@ fn put_refusal(out: &mut [u8], number: usize) -> usize
 // The line of a check's answer that is a refusal, at the front; nothing where it is none.
 pub fn put_refused(out: &mut [u8], checked: Checked) -> usize
     requires { ⌜ 12 ≤ length (now out) ⌝ }
-    ensures { λ r. ⌜ Put (now₀ out) 0 (refusedLine (verdictOf checked)) (now₁ out) r ⌝ }
+    ensures { λ r. ⌜ Put (now₀ out) 0 (refusedLine (verdictOf checked)) (now₁ out) r × (r ≤ 12) ⌝ }
 {
     match checked {
         Checked::Refused(r) => put_refusal(out, wide(r.number)),

@@ -7,7 +7,7 @@ ghost use Rattle.sheets.specs.Decimal.{digit, decimal};
 ghost use Rattle.sheet_text.specs.Put.{Put, FiveDigits};
 
 // Puts one byte.
-pub(crate) fn put_byte(out: &mut [u8], at: usize, byte: u8) -> usize
+pub fn put_byte(out: &mut [u8], at: usize, byte: u8) -> usize
     requires { ⌜ at < length (now out) ⌝ }
     ensures { λ r. ⌜ Put (now₀ out) at (byte ∷ []) (now₁ out) r ⌝ }
 {
@@ -48,7 +48,7 @@ fn put_three(out: &mut [u8], at: usize, x: usize) -> usize
 }
 
 // Puts the digits of x, of which there are at most five.
-pub(crate) fn put_decimal(out: &mut [u8], at: usize, x: usize) -> usize
+pub fn put_decimal(out: &mut [u8], at: usize, x: usize) -> usize
     requires { ⌜ (at + length (decimal x) ≤ length (now out)) × FiveDigits x ⌝ }
     ensures { λ r. ⌜ Put (now₀ out) at (decimal x) (now₁ out) r ⌝ }
 {
@@ -62,7 +62,7 @@ pub(crate) fn put_decimal(out: &mut [u8], at: usize, x: usize) -> usize
 }
 
 // Puts the digits of x and the byte that follows the field.
-pub(crate) fn put_field(out: &mut [u8], at: usize, x: usize, after: u8) -> usize
+pub fn put_field(out: &mut [u8], at: usize, x: usize, after: u8) -> usize
     requires { ⌜ (at + length (decimal x) < length (now out)) × FiveDigits x ⌝ }
     ensures { λ r. ⌜ Put (now₀ out) at (decimal x ++ (after ∷ [])) (now₁ out) r ⌝ }
 {

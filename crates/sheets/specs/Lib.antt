@@ -1,9 +1,13 @@
--- The sheet in the words of document 01, and what its lines mean. Assumes nothing.
+-- The sheet in the words of document 01, what its lines mean, and the sheet with those who are moved. Assumes nothing.
 pub mod Decimal
+pub mod Joined
+pub mod Listed
 pub mod Line
 pub mod LineLaws
 pub mod Longest
 pub mod Sheet
-pub mod Reply
 pub mod SheetLaws
+pub mod Moves
+pub mod MovesLaws
+pub mod Reply
 pub mod UnitWeights

@@ -1,5 +1,5 @@
 -- The lines of the sheet as bytes. Assumes nothing.
-use Prim.Native.Nat.{ℕ, zero, suc}
+use Prim.Native.Nat.{ℕ}
 use mathlib.Core.List.{List, [], _∷_, _++_}
 use lib.Dec.{eqb}
 use Rattle.laws.specs.Choice.{pick}
@@ -7,6 +7,7 @@ use Rattle.format.specs.Verdict.{Verdict, fine, refused}
 use Rattle.format.specs.Format.{nobody}
 use Rattle.repairs.specs.Grade.{GradeAnswer, graded, allFixed}
 use Rattle.sheets.specs.Decimal.{decimal}
+use Rattle.sheets.specs.Joined.{joined}
 
 -- The bytes between fields and after them
 abbrev pub space : ℕ
@@ -43,9 +44,8 @@ unfoldable pub studentLine : ℕ → ℕ → ℕ → ℕ → List ℕ
 studentLine man woman letter distance = pick (eqb woman nobody) (aloneLine man) (pairLine man woman letter distance)
 
 -- The lines of the students below k, with entry w s, letter l s and distance d s for student s
-unfoldable pub studentLines : (ℕ → ℕ) → (ℕ → ℕ) → (ℕ → ℕ) → ℕ → List ℕ
-studentLines w l d zero = []
-studentLines w l d (suc k) = studentLines w l d k ++ studentLine k (w k) (l k) (d k)
+abbrev pub studentLines : (ℕ → ℕ) → (ℕ → ℕ) → (ℕ → ℕ) → ℕ → List ℕ
+studentLines w l d k = joined (λ s. studentLine s (w s) (l s) (d s)) k
 
 -- The word `refused`
 abbrev pub refusedWord : List ℕ

@@ -1,12 +1,12 @@
 -- Laws of the lines of a sheet. Assumes nothing.
-use Prim.Native.Nat.{ℕ, zero, suc, _<_}
+use Prim.Native.Nat.{ℕ, _<_}
 use mathlib.Core.Path.{_≡_, refl}
 use mathlib.Core.List.{[], _∷_, _++_}
-use native.Mathlib.Omega.{arith}
 use borrow.Author.Tests.{eq-eqb, ne-eqb}
 use Rattle.format.specs.Format.{nobody}
 use Rattle.repairs.specs.Grade.{graded, allFixed}
 use Rattle.sheets.specs.Decimal.{decimalIn, decimal}
+use Rattle.sheets.specs.Joined.{joined-same}
 use Rattle.sheets.specs.Line.{line, topLine, pairLine, aloneLine, studentLine, studentLines}
 
 -- Line one, computed: `7 6 0 3` of Table 1, and `1 0 1 -` of one student
@@ -34,8 +34,4 @@ module _ (man : ℕ) {woman : ℕ} (letter distance : ℕ) where
 
 -- equal fields, equal lines
 pub lines-same : {w l d v m e : ℕ → ℕ} (k : ℕ) → ((s : ℕ) → s < k → (w s ≡ v s) × (l s ≡ m s) × (d s ≡ e s)) → studentLines w l d k ≡ studentLines v m e k
-unfolding studentLines
-lines-same zero h = refl
-lines-same {w} {l} {d} {v} {m} {e} (suc k) h =
-    let u = h k (omega arith) in
-    rw (u .0, u .1, u .2, lines-same {w = w} {l = l} {d = d} {v = v} {m = m} {e = e} k (λ s r. h s (omega arith)))
+lines-same k h = joined-same k (λ s u. let q = h s u in rw (q .0, q .1, q .2))

@@ -33,9 +33,21 @@ longest = topMost digits + studentMost digits * largest
 abbrev pub weightedLongest : ℕ
 weightedLongest = topMost totalDigits + studentMost totalDigits * largest
 
+-- The line of a student who is moved: four numbers, of which the last has a sign, a space before them, and a byte after
+-- each
+abbrev pub moveMost : ℕ
+moveMost = 4 * digits + 6
+
+-- How many bytes a sheet with those who are moved can have: under each student's line one for each student
+abbrev pub movesLongest : ℕ
+movesLongest = longest + moveMost * largest * largest
+
 -- in numbers
 pub longest-in-numbers : longest ≡ 718
 longest-in-numbers = refl
 
 pub weighted-longest-in-numbers : weightedLongest ≡ 913
 weighted-longest-in-numbers = refl
+
+pub moves-longest-in-numbers : movesLongest ≡ 58062
+moves-longest-in-numbers = refl

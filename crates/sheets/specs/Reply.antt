@@ -5,6 +5,7 @@ use lib.ListN.{length}
 use Rattle.format.specs.Verdict.{Verdict}
 use Rattle.format.specs.Outcome.{Outcome, after, checkRoom, filled}
 use Rattle.sheets.specs.Sheet.{sheetOf, weightedSheetOf}
+use Rattle.sheets.specs.Moves.{movesOf}
 
 -- The verdict on a buffer of so many bytes for a sheet: 14. A refusal of the book, the matching or the weights is no
 -- refusal here: its line is the sheet
@@ -31,3 +32,10 @@ weightedSheetReply input room = replyWith (weightedSheetOf input) room
 
 abbrev pub weightedSheetBuffer : List ℕ → List ℕ → List ℕ
 weightedSheetBuffer input out = bufferWith (weightedSheetOf input) out
+
+-- and with the lines of those who are moved
+abbrev pub movesReply : List ℕ → ℕ → Outcome ℕ
+movesReply input room = replyWith (movesOf input) room
+
+abbrev pub movesBuffer : List ℕ → List ℕ → List ℕ
+movesBuffer input out = bufferWith (movesOf input) out

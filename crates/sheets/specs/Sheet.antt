@@ -35,16 +35,23 @@ distanceOf b c m (U v) = movedWeight (people b) c m (matchingOf b v)
 distanceOf b c m (D v) = movedWeight (people b) c m (matchingOf b v)
 distanceOf b c m F = 0
 
--- The sheet of a book and a stable matching: line one, then the line of each student
+-- Line one of the sheet of a book and a stable matching
+abbrev pub topOf : List ℕ → (ℕ → ℕ) → List ℕ → List ℕ
+topOf b c m = topLine (people b) (rotationCount b) (fixedCount b c m) (gradeOf b c m)
+
+-- The sheet: line one, then the line of each student
 unfoldable pub answers : List ℕ → (ℕ → ℕ) → List ℕ → List ℕ
 answers b c m =
-    topLine (people b) (rotationCount b) (fixedCount b c m) (gradeOf b c m)
+    topOf b c m
     ++ studentLines (womanOf m) (λ s. letterByte (answerFor b c m s)) (λ s. distanceOf b c m (answerFor b c m s)) (people b)
 
--- It goes on to repairs only where the check refused nothing; otherwise it is the line of the refusal
+-- A text goes on to repairs only where the check refused nothing; otherwise it is the line of the refusal
+abbrev pub afterCheck : Verdict → List ℕ → List ℕ
+afterCheck fine text = text
+afterCheck (refused number place second) text = refusalLine number
+
 abbrev pub sheetAfter : Verdict → List ℕ → (ℕ → ℕ) → List ℕ → List ℕ
-sheetAfter fine b c m = answers b c m
-sheetAfter (refused number place second) b c m = refusalLine number
+sheetAfter v b c m = afterCheck v (answers b c m)
 
 -- The sheet of a book and a matching, where every student counts 1
 abbrev pub sheetFor : List ℕ → List ℕ → List ℕ

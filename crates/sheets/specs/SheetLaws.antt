@@ -81,13 +81,13 @@ pub record RightSheet (b : List ℕ) (c : ℕ → ℕ) (m : List ℕ) (sheet : L
   pub least : {g : ℕ} → grade ≡ graded g → (h : ℕ) → Covers b c m h → g ≤ h
 
 -- the letter and the distance of an answer say it
-answer-says : (b : List ℕ) (c : ℕ → ℕ) (m : List ℕ) (a : Answer) → Says (letterByte a) (distanceOf b c m a) (withDistance b c m a)
+pub answer-says : (b : List ℕ) (c : ℕ → ℕ) (m : List ℕ) (a : Answer) → Says (letterByte a) (distanceOf b c m a) (withDistance b c m a)
 answer-says b c m (U v) = says-up _
 answer-says b c m (D v) = says-down _
 answer-says b c m F = says-fixed
 
 -- so the line of a pair is right
-pair-right :
+unfoldable pub pair-right :
     {b m : List ℕ} → StableIn b m → (c : ℕ → ℕ) {s : ℕ} → PairIn b m s →
     RightLine b c m s (letterByte (answerFor b c m s)) (distanceOf b c m (answerFor b c m s))
 pair-right {b} {m} S c {s} P =
@@ -103,7 +103,7 @@ pair-right {b} {m} S c {s} P =
     }
 
 -- and so is that of a student without a mentor
-alone-right :
+pub alone-right :
     {b m : List ℕ} → StableIn b m → {s : ℕ} → s < people b → womanOf m s ≡ nobody → (letter distance : ℕ) → AloneLine b m s letter distance
 alone-right {b} S {s} u e letter distance =
     record {
@@ -112,7 +112,7 @@ alone-right {b} S {s} u e letter distance =
     }
 
 -- the lines of the answers are those of these letters and distances
-answers-lines :
+pub answers-lines :
     (b : List ℕ) (c : ℕ → ℕ) (m : List ℕ) →
     answers b c m
     ≡ topLine (people b) (rotationCount b) (fixedCount b c m) (gradeOf b c m)
@@ -121,7 +121,7 @@ unfolding answers
 answers-lines b c m = refl
 
 -- and so is the sheet, where nothing is refused
-right : (b : List ℕ) (c : ℕ → ℕ) (m : List ℕ) → checkMatching b m ≡ fine → {v : Verdict} → v ≡ fine → RightSheet b c m (sheetAfter v b c m)
+unfoldable pub right : (b : List ℕ) (c : ℕ → ℕ) (m : List ℕ) → checkMatching b m ≡ fine → {v : Verdict} → v ≡ fine → RightSheet b c m (sheetAfter v b c m)
 right b c m f e =
     let S = fine-stable b m .0 f in
     record {

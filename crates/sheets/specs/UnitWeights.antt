@@ -21,7 +21,7 @@ use Rattle.sheets.specs.Sheet.{bookPart, matchingPart, weighedPart, weig
 
 -- Weights c and d of the students of a book that agree
 module _ (b : List ℕ) {c d : ℕ → ℕ} (e : (i : ℕ) → i < people b → c i ≡ d i) (m : List ℕ) where
-  distance-same : (a : Answer) → distanceOf b c m a ≡ distanceOf b d m a
+  pub distance-same : (a : Answer) → distanceOf b c m a ≡ distanceOf b d m a
   distance-same (U v) = moved-same b e m (matchingOf b v)
   distance-same (D v) = moved-same b e m (matchingOf b v)
   distance-same F = refl

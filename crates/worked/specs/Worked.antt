@@ -30,8 +30,10 @@ use Rattle.repairs.specs.Grade.{fixedCount, gradeBy}
 use Rattle.rotations.specs.RotationList.{rotationBytes}
 use Rattle.rotations.specs.Sets.{badMarks, checkSet, setMatching}
 use Rattle.sheets.specs.Decimal.{decimalIn, decimal}
-use Rattle.sheets.specs.Line.{line, topLine, pairLine, aloneLine, studentLine, studentLines, refusalLine}
+use Rattle.sheets.specs.Joined.{joined}
+use Rattle.sheets.specs.Line.{line, topLine, pairLine, aloneLine, studentLine, refusalLine}
 use Rattle.sheets.specs.Sheet.{answers, sheetOf, weightedSheetOf}
+use Rattle.sheets.specs.Moves.{moveLine, moves, movesOf}
 use Rattle.worked.specs.Agree.{Row, agree, agree-each}
 
 -- The book of two students and two mentors: students 0 1 and 1 0, mentors 1 0 and 0 1
@@ -139,11 +141,15 @@ table =
     -- three by three, matching 2 0 1, weights 1 0 0: the repair for student 0 weighs 1, which is his own weight, and
     -- the others 0, so that the grade is 0 and a number: `3 2 0 0`, `0 2 U 1`, `1 0 D 0` and `2 1 D 0`
     (weightedSheetOf (three ++ (2 ∷ 0 ∷ 1 ∷ 1 ∷ 0 ∷ 0 ∷ [])), 51 ∷ 32 ∷ 50 ∷ 32 ∷ 48 ∷ 32 ∷ 48 ∷ 10 ∷ 48 ∷ 32 ∷ 50 ∷ 32 ∷ 85 ∷ 32 ∷ 49 ∷ 10 ∷ 49 ∷ 32 ∷ 48 ∷ 32 ∷ 68 ∷ 32 ∷ 48 ∷ 10 ∷ 50 ∷ 32 ∷ 49 ∷ 32 ∷ 68 ∷ 32 ∷ 48 ∷ 10 ∷ []) ∷
+    -- the same matching with those whom each repair moves: up the students 0 and 2, by one place each, and down the
+    -- students 1 and 2: `3 2 0 1`, `0 2 U 2`, ` 0 2 1 +1`, ` 2 1 2 +1`, `1 0 D 2`, ` 1 0 1 -1`, ` 2 1 0 -1`, `2 1 U 2`,
+    -- and the first two once more
+    (movesOf (three ++ (2 ∷ 0 ∷ 1 ∷ [])), 51 ∷ 32 ∷ 50 ∷ 32 ∷ 48 ∷ 32 ∷ 49 ∷ 10 ∷ 48 ∷ 32 ∷ 50 ∷ 32 ∷ 85 ∷ 32 ∷ 50 ∷ 10 ∷ 32 ∷ 48 ∷ 32 ∷ 50 ∷ 32 ∷ 49 ∷ 32 ∷ 43 ∷ 49 ∷ 10 ∷ 32 ∷ 50 ∷ 32 ∷ 49 ∷ 32 ∷ 50 ∷ 32 ∷ 43 ∷ 49 ∷ 10 ∷ 49 ∷ 32 ∷ 48 ∷ 32 ∷ 68 ∷ 32 ∷ 50 ∷ 10 ∷ 32 ∷ 49 ∷ 32 ∷ 48 ∷ 32 ∷ 49 ∷ 32 ∷ 45 ∷ 49 ∷ 10 ∷ 32 ∷ 50 ∷ 32 ∷ 49 ∷ 32 ∷ 48 ∷ 32 ∷ 45 ∷ 49 ∷ 10 ∷ 50 ∷ 32 ∷ 49 ∷ 32 ∷ 85 ∷ 32 ∷ 50 ∷ 10 ∷ 32 ∷ 48 ∷ 32 ∷ 50 ∷ 32 ∷ 49 ∷ 32 ∷ 43 ∷ 49 ∷ 10 ∷ 32 ∷ 50 ∷ 32 ∷ 49 ∷ 32 ∷ 50 ∷ 32 ∷ 43 ∷ 49 ∷ 10 ∷ []) ∷
     []
 
 -- What is computed is what the papers say, in every row
 pub worked : agree table ≡ true
-unfolding decimalIn decimal line topLine pairLine aloneLine studentLine studentLines refusalLine answers sheetOf weightedSheetOf checkWeights
+unfolding decimalIn decimal line topLine pairLine aloneLine studentLine joined refusalLine answers sheetOf weightedSheetOf moveLine moves movesOf checkWeights
     edition partial people offset listLength due entry place onList entryIn markIn size extent firstFaulty firstClash firstFaultyList checkLists
     checkOutline allowedLength firstWrongPair oneSided checkReturned checkHeader checkDirectory checkFrame checkBook
     mirror holder holding least settle onward rejected outranks proposer-optimal receiver-optimal isStable unheld reaching places partners down up moved weight answerOf nearer cost robustness fixedCount gradeBy

@@ -116,12 +116,12 @@ module _ {R : Record} {p : Places} (G : GivenIn R p) {weights wweights : List �
   pub pairs-answered :
       {grade : Grade} → n ≤ length letters → n ≤ length distances →
       gradeAnswer grade ≡ gradeFrom n letters (maximum n (λ s. vec distances s - c s)) →
-      PairsAnswered R c p letters distances (record { grade = grade; rotations = groups .rotations })
+      PairsAnswered R c p letters distances (record { grade = grade; groups = groups })
   pairs-answered l d e =
       record {
         letters-long = l;
         distances-long = d;
         at = λ u. answer-at u;
         grade-is = e ∙ grade-in;
-        all-rotations = W .all-rotations;
+        grouped = W;
       }

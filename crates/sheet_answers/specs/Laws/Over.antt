@@ -47,7 +47,7 @@ module _
     {R : Record} {c : ℕ → ℕ} {p : Places} {letters distances : List ℕ} {r : Summary} (A : PairsAnswered R c p letters distances r) (m : List ℕ)
     {fixed : ℕ} (counted : fixed ≡ fixedAmong (R .n) m (vec letters)) where
   abbrev top : List ℕ
-  top = topLine (R .n) (r .rotations) fixed (gradeAnswer (r .grade))
+  top = topLine (R .n) (r .groups .rotations) fixed (gradeAnswer (r .grade))
 
   abbrev lines : List ℕ
   lines = studentLines (womanOf m) (vec letters) (vec distances) (R .n)
@@ -59,7 +59,7 @@ module _
       let I = marketIn R in
       let v = vec (p .men) in
       let f : fixed ≡ fixedAmong (R .n) m (letterIn I c v) = counted ∙ among-same (R .n) m (λ s u. A .at u .letter) in
-      let t : top ≡ topLine (R .n) (total I) (fixedAmong (R .n) m (letterIn I c v)) (gradeIn I c v) = cc (A .all-rotations, f, A .grade-is) in
+      let t : top ≡ topLine (R .n) (total I) (fixedAmong (R .n) m (letterIn I c v)) (gradeIn I c v) = cc (A .grouped .all-rotations, f, A .grade-is) in
       ap₂ (λ (t l : List ℕ). t ++ l) t
       (lines-same {w = womanOf m} {l = vec letters} {d = vec distances} {v = womanOf m} {m = letterIn I c v} {e = distanceIn I c v} (R .n)
       (λ s u. (refl, A .at u .letter, A .at u .distance)))
@@ -95,11 +95,11 @@ module _ {b m : List ℕ} {R : Record} {j : Judged} (J : BookJudged b m R j) (f 
   p = vec (j .places .men)
 
   -- the letter and the distance over the record are those of the bytes
-  letter-book : {s : ℕ} → s < R .n → letterIn I c p s ≡ letterByte (answerFor b c m s)
+  pub letter-book : {s : ℕ} → s < R .n → letterIn I c p s ≡ letterByte (answerFor b c m s)
   letter-book u = letter-same (answer-book J f c u)
 
   -- where he is placed by his answer, and otherwise both are 0
-  distance-book : {s : ℕ} → s < R .n → distanceIn I c p s ≡ distanceOf b c m (answerFor b c m s)
+  pub distance-book : {s : ℕ} → s < R .n → distanceIn I c p s ≡ distanceOf b c m (answerFor b c m s)
   distance-book {s} u =
       let S = fine-stable b m .0 f in
       let v : s < people b = omega (arith, judged-number J f) in
@@ -111,13 +111,13 @@ module _ {b m : List ℕ} {R : Record} {j : Judged} (J : BookJudged b m R j) (f 
       sym (distance-far S c (answer-of (market-proper (S .matching .formed)) c (vector-stable S) (holds S P))))
 
   -- the record has as many rotations as the book
-  totals : total I ≡ total (market b)
+  pub totals : total I ≡ total (market b)
   totals =
       let W = judged-formed J f in
       rotations-alike (judged-usable J f .men .proper) (market-proper W) (judged-alike J f) .0
 
   -- and as many fixed pairs
-  fixed-book : fixedAmong (R .n) m (letterIn I c p) ≡ fixedCount b c m
+  pub fixed-book : fixedAmong (R .n) m (letterIn I c p) ≡ fixedCount b c m
   fixed-book =
       among-same (R .n) m (λ s u. letter-book u)
       ∙ ap (λ (n : ℕ). fixedAmong n m (λ s. letterByte (answerFor b c m s))) (judged-number J f)

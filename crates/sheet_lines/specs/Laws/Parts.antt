@@ -24,11 +24,11 @@ module _ (input : List ℕ) {end : ℕ} (e : end ≡ min (extent input) (length 
   end-within = omega arith
 
   -- the part before it is the book
-  book-part : take end input ≡ bookPart input
+  pub book-part : take end input ≡ bookPart input
   book-part = ap (λ (k : ℕ). take k input) e ∙ take-most input (extent input)
 
   -- and the rest the matching
-  matching-part : rest input end ≡ matchingPart input
+  pub matching-part : rest input end ≡ matchingPart input
   matching-part = take-rest input end ∙ ap (λ (k : ℕ). drop k input) e ∙ drop-most input (extent input)
 
   -- so the sheet is that of the two parts

@@ -1,27 +1,21 @@
--- How long the lines are, and the lines of all students one after the other: what the loop that puts them knows.
--- Assumes nothing.
-use Prim.Native.Nat.{ℕ, zero, suc, _+_, _*_, _^_, _≤_, _<_}
-use mathlib.Core.Path.{_≡_, refl, sym, _∙_, ap}
-use mathlib.Core.List.{List, _++_}
+-- How long the lines are. Assumes nothing.
+use Prim.Native.Nat.{ℕ, _+_, _*_, _^_, _≤_, _<_}
+use mathlib.Core.Path.{_≡_, refl, _∙_, ap}
 use native.Mathlib.Omega.{arith}
-use native.Mathlib.Nat.{mul-suc}
-use native.Mathlib.Numerals.{add-one}
 use lib.ListN.{length, length-append}
 use Rattle.laws.specs.Choice.{same}
-use Rattle.laws.specs.Overwrite.{overwritten-none}
 use Rattle.format.specs.declared.people.Woman.{Woman}
 use Rattle.format.specs.declared.people.Partner.{Partner}
 use Rattle.format.specs.declared.people.Partner.the-variants.{With, Alone}
 use Rattle.format.specs.Format.{largest, nobody}
 use Rattle.format.specs.Partner.{PartnerIs}
 use Rattle.sheets.specs.Decimal.{decimalIn, decimal}
+use Rattle.sheets.specs.Joined.{joined-most}
 use Rattle.repairs.specs.Grade.{GradeAnswer, graded, allFixed}
 use Rattle.sheets.specs.Line.{line, gradeField, topLine, pairLine, aloneLine, studentLine, studentLines, refusalLine}
 use Rattle.sheets.specs.LineLaws.{pair-text, alone-line}
 use Rattle.sheets.specs.Longest.{digits, topMost}
-use Rattle.sheet_text.specs.Put.{Put}
 use Rattle.sheet_text.specs.Laws.Decimal.{decimal-short}
-use Rattle.sheet_text.specs.Laws.Put.{put-on, put-long}
 
 -- how long the lines are
 pub top-length :
@@ -92,64 +86,10 @@ student-short {s} {w} l {d} e some a b c =
 pub refusal-short : {k : ℕ} → k < 1000 → length (refusalLine k) ≤ 12
 refusal-short {k} h = omega (arith, refusal-length k, decimal-short 3 k (omega arith) h)
 
-module _ (w l d : ℕ → ℕ) where
-  -- one line more
-  pub lines-more : (k : ℕ) → studentLines w l d (k + 1) ≡ studentLines w l d k ++ studentLine k (w k) (l k) (d k)
-  unfolding studentLines
-  lines-more k = ap (studentLines w l d) (add-one k)
-
-  -- fewer lines are no longer
-  pub lines-within : (k n : ℕ) → k < n → length (studentLines w l d k) + length (studentLine k (w k) (l k) (d k)) ≤ length (studentLines w l d n)
-  unfolding studentLines
-  lines-within k zero h = absurd (omega arith)
-  lines-within k (suc n) h =
-      let e = length-append (studentLines w l d n) (studentLine n (w n) (l n) (d n)) in
-      same k n (λ q. rw q (omega arith)) (λ ne. omega (arith, lines-within k n (omega arith)))
-
-  -- k lines are at most k times as long as one can be
-  pub lines-short :
-      (e : ℕ) → 0 < e → (k : ℕ) → ((s : ℕ) → s < k → (s ≤ largest) × ((w s ≡ nobody → ⊥) → w s ≤ largest) × (d s < 10 ^ e)) →
-      length (studentLines w l d k) ≤ (2 * digits + e + 5) * k
-  unfolding studentLines
-  lines-short e some zero h = omega arith
-  lines-short e some (suc k) h =
-      let u = h k (omega arith) in
-      omega (
-        arith,
-        length-append (studentLines w l d k) (studentLine k (w k) (l k) (d k)),
-        student-short (l k) e some (u .0) (u .1) (u .2),
-        lines-short e some k (λ s v. h s (omega arith)),
-        mul-suc (2 * digits + e + 5) k,
-      )
-
--- What the loop that puts the lines knows after k of them: they stand in the buffer, and there is room for the rest
-pub record LinesPut (w l d : ℕ → ℕ) (n : ℕ) (out : List ℕ) (at k : ℕ) (now : List ℕ) (j : ℕ) : Type 0 where
-  pub within : k ≤ n
-  pub put : Put out at (studentLines w l d k) now j
-  pub long : length now ≡ length out
-
-module _ {w l d : ℕ → ℕ} {n : ℕ} {out : List ℕ} {at : ℕ} (room : at + length (studentLines w l d n) ≤ length out) where
-  -- it starts
-  pub lines-start : LinesPut w l d n out at 0 out at
-  unfolding studentLines
-  lines-start = record { within = omega arith; put = record { next = omega arith; bytes = sym (overwritten-none out at) }; long = refl }
-
-  module _ {k : ℕ} {now : List ℕ} {j : ℕ} (P : LinesPut w l d n out at k now j) where
-    -- there is room for the next line, of the man with index s
-    pub lines-room : {s : ℕ} → s ≡ k → k < n → j + length (studentLine k (w k) (l s) (d s)) ≤ length now
-    lines-room e h = rw e (omega (arith, lines-within w l d k n h, P .put .next, P .long))
-
-    -- which is put
-    pub lines-on : {s : ℕ} → s ≡ k → {next : List ℕ} {i m : ℕ} → k < n → Put now j (studentLine k (w k) (l s) (d s)) next i →
-        m ≡ k + 1 → LinesPut w l d n out at m next i
-    lines-on e h Q r =
-        rw r
-        (record {
-          within = omega arith;
-          put = rw (lines-more w l d k) (put-on (P .put) (omega arith) (rw e at Q));
-          long = put-long Q (lines-room e h) ∙ P .long;
-        })
-
-    -- and it ends
-    pub lines-end : n ≤ k → Put out at (studentLines w l d n) now j
-    lines-end h = let e : n ≡ k = omega (arith, P .within) in rw e (P .put)
+-- k lines are at most k times as long as one can be
+pub lines-short :
+    (w l d : ℕ → ℕ) (e : ℕ) → 0 < e → (k : ℕ) → ((s : ℕ) → s < k → (s ≤ largest) × ((w s ≡ nobody → ⊥) → w s ≤ largest) × (d s < 10 ^ e)) →
+    length (studentLines w l d k) ≤ (2 * digits + e + 5) * k
+lines-short w l d e some k h =
+    joined-most (λ s. studentLine s (w s) (l s) (d s)) (2 * digits + e + 5) k
+    (λ s v. let u = h s v in student-short (l s) e some (u .0) (u .1) (u .2))

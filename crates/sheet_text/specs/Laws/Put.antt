@@ -95,5 +95,5 @@ unfolding refusalLine line
 put-refusal k P Q = put-on P (omega arith) Q
 
 -- nothing at all
-pub put-none : (l : List ℕ) → Put l 0 [] l 0
-put-none l = record { next = omega arith; bytes = sym (overwritten-none l 0) }
+pub put-none : (l : List ℕ) (i : ℕ) → Put l i [] l i
+put-none l i = record { next = omega arith; bytes = sym (overwritten-none l i) }

@@ -26,7 +26,7 @@ put-top-requires c κs =
     let U = start a .pre .0 .0 in
     let B = start a .pre .0 .2 .men in (
       top-fits A _ e (start a .pre .1 .1),
-      (size-short U, rotations-short U (A .all-rotations), fixed-short U (λ i u. B .light u) A _ e, grade-short U (λ i u. B .light u) A),
+      (size-short U, rotations-short U (A .grouped .all-rotations), fixed-short U (λ i u. B .light u) A _ e, grade-short U (λ i u. B .light u) A),
     )
 
 put-lines-requires : tie.Need-put-lines-requires

@@ -71,7 +71,7 @@ returns c =
     let d : tie.After-check-weights = search in
     λ b B.
     rw (sheet-refusal b _ _ (weights-told (before d .judge .ensures) _ (d .check-weights .ensures) b B) (t .enum-told2 .given .1))
-    (p .put-refused .ensures)
+    (p .put-refused .ensures .0)
 
 -- the student's side of the record has n entries
 long : (c : tie.After-enum-told) → let s = start (stable c) in s .args .n ≤ length (stable c .judge .result .partners .his)

@@ -10,8 +10,10 @@ returns : tie.Need-returns
 returns c =
     let p : tie.After-put-refusal = search in
     let w : tie.After-wide = search in
-    let k : tie.After-checked = search in
-    rw (k .checked .given .1, ← w .wide .ensures .0) (p .put-refusal .ensures)
+    let k : tie.After-checked = search in (
+      rw (k .checked .given .1, ← w .wide .ensures .0) (p .put-refusal .ensures),
+      omega (arith, p .put-refusal .ensures .next, refusal-short {k = w .wide .result} (omega (arith, w .wide .ensures .1))),
+    )
 
 pub put-refused-spec : {M : Type 1} → statement M
 put-refused-spec =
@@ -23,4 +25,4 @@ put-refused-spec =
     (λ c. search needs)
     (λ c. search needs)
     returns
-    (λ c. rw (c .enum-told .given .1) (put-none _)))
+    (λ c. (rw (c .enum-told .given .1) (put-none _ _), omega arith)))
