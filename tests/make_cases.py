@@ -18,7 +18,7 @@ sys.dont_write_bytecode = True
 from cases import book_calls, matching_calls, repair_calls, rotation_calls, sheet_calls
 from cases import weighted_calls, weighted_sheet_calls
 from cases import short_book_calls, short_lists, short_matching_calls, short_sheet_calls
-from cases import mentor_calls, pair_calls
+from cases import mentor_calls, moves_calls, pair_calls
 
 CASES = [
     *book_calls.CASES,
@@ -34,6 +34,7 @@ CASES = [
     *short_lists.CASES,
     *mentor_calls.CASES,
     *pair_calls.CASES,
+    *moves_calls.CASES,
 ]
 # What the program takes
 LARGEST = 655360

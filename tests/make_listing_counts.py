@@ -1,9 +1,9 @@
 #!/usr/bin/env python3
 """The counts of the first part of tests/listing_compare, from document 01's definitions over all matchings and, for
 weights, short lists, sheets without a grade, mentors who ask, whom a repair moves and two pairs, from W-201 and W-203
-to W-207 of document 02.
+to W-207 of document 02. The lines of sheets with moves are those that include/placement.h describes.
 
-    tests/make_listing_counts.py            prints them, in a minute and a quarter
+    tests/make_listing_counts.py            prints them, in a minute and a half
     tests/make_listing_counts.py --check    says whether tests/listing_compare/expected begins with them
 
 The books and what is asked of them are those of tests/listing_compare; no code is taken from there or from
@@ -18,8 +18,9 @@ import sys
 sys.dont_write_bytecode = True
 from counts.book import NOBODY, Book, answer, grade
 from counts.drawn import KINDS, WAYS, Drawn, permutation
+from counts.moves import moves
 from counts.pairs import Pairs
-from counts.words import BESIDE, SHORT_WORDS, SHOWN, WORDS
+from counts.words import BESIDE, SHORT_WORDS, SHOWN, SHOWN_MOVES, WORDS
 
 
 class Counts(collections.Counter):
@@ -66,6 +67,7 @@ class Counts(collections.Counter):
         self.pairs("answers", pairs, answers, ones)
         self["stable matchings beside candidates"] += pairs.beside_candidates()
         self.sheet("sheets", book.n, answers, ones)
+        self.moves(book, m, answers)
         eliminated = book.runs()[m]
         marks = [int(rotation in eliminated) for rotation in rotations]
         self.set(marks, before)
@@ -133,6 +135,18 @@ class Counts(collections.Counter):
         shown += [fixed and len(answers) < n, known == 0 and near]
         for kind, is_shown in zip(SHOWN, shown, strict=True):
             self[f"{word} with {kind}"] += is_shown
+
+    def moves(self, book, m, answers):
+        """The sheet with moves by what it shows, and the lines under its pairs."""
+        pairs = list(moves(book, m, answers))
+        better, worse = (sum(sign * gain > 0 for moved in pairs for gain, _ in moved) for sign in (1, -1))
+        self["moves for the better"] += better
+        self["moves for the worse"] += worse
+        self["bytes of lines with moves"] += sum(len(line) for moved in pairs for _, line in moved)
+        shown = [better > 0, worse > 0, len(pairs) < len(answers), len(answers) < book.n]
+        shown += [any(len(moved) < len(answers) for moved in pairs)]
+        for kind, is_shown in zip(SHOWN_MOVES, shown, strict=True):
+            self[f"sheets with moves and {kind}"] += is_shown
 
     def refused(self, times=1):
         """Bytes that are no stable matching: check, repair, grade and set are refused."""

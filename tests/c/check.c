@@ -89,9 +89,19 @@ static uint8_t pattern(size_t at)
     return (uint8_t)(0x80 | (at * 5 + 3) % 0x40);
 }
 
+/* How many bytes hold the pattern where so many are lent. */
+static size_t filled(size_t length)
+{
+    return GUARD + (length < LARGEST_BUFFER ? LARGEST_BUFFER : length) + GUARD;
+}
+
 uint8_t *lend(struct lent *buffer, size_t length)
 {
-    for (size_t at = 0; at < sizeof buffer->bytes; at++) {
+    if (length > LARGEST_LENT) {
+        fprintf(stderr, "a buffer of %zu bytes has no room\n", length);
+        exit(2);
+    }
+    for (size_t at = 0; at < filled(length); at++) {
         buffer->bytes[at] = pattern(at);
     }
     buffer->length = length;
@@ -102,7 +112,7 @@ void wrote_at(const char *file, int line, const struct lent *buffer, const void 
 {
     const uint8_t *result = due;
     checks++;
-    for (size_t at = 0; at < sizeof buffer->bytes; at++) {
+    for (size_t at = 0; at < filled(buffer->length); at++) {
         int written = GUARD <= at && at < GUARD + length;
         uint8_t byte = written ? result[at - GUARD] : pattern(at);
         if (buffer->bytes[at] != byte) {

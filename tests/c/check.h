@@ -5,8 +5,10 @@
 
 #include "placement.h"
 
-/* The largest buffer that a test lends or reads: the list of 2,016 rotations has 10,080 bytes. */
+/* The largest input of a test, and the buffer of most calls: the list of 2,016 rotations has 10,080 bytes. */
 #define LARGEST_BUFFER 12288
+/* The largest buffer that a test lends: a sheet with moves has up to 58,062 bytes. */
+#define LARGEST_LENT 59392
 #define GUARD 64
 
 /* How many checks were made, and how many failed. */
@@ -31,9 +33,10 @@ void holds_at(const char *file, int line, int holds, const char *text);
 #define FENCES 4
 const uint8_t *fenced(int fence, const uint8_t *bytes, size_t length);
 
-/* A result buffer between guard bytes. All bytes, guard bytes too, hold a pattern of bytes from 0x80 to 0xbf. */
+/* A result buffer between guard bytes. LARGEST_BUFFER bytes, or as many as are lent if these are more, and the guard
+ * bytes on both sides hold a pattern of bytes from 0x80 to 0xbf. */
 struct lent {
-    uint8_t bytes[GUARD + LARGEST_BUFFER + GUARD];
+    uint8_t bytes[GUARD + LARGEST_LENT + GUARD];
     size_t length;
 };
 
@@ -56,6 +59,8 @@ void test_rotations(void);
 void test_sets(void);
 void test_repair(void);
 void test_sheet(void);
+void test_moves(void);
+void test_moves_books(void);
 void test_weights(void);
 void test_weight_rules(void);
 void test_weighted_sheet(void);

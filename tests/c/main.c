@@ -12,6 +12,8 @@ int main(void)
     test_sets();
     test_repair();
     test_sheet();
+    test_moves();
+    test_moves_books();
     test_weights();
     test_weight_rules();
     test_weighted_sheet();

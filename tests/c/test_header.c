@@ -15,7 +15,7 @@ static void words(void)
     for (int number = 0; number < 20; number++) {
         HOLDS(numbers[number] == number);
     }
-    HOLDS(PLACEMENT_VERSION_MAJOR == 2 && PLACEMENT_VERSION_MINOR == 2);
+    HOLDS(PLACEMENT_VERSION_MAJOR == 2 && PLACEMENT_VERSION_MINOR == 3);
     HOLDS(PLACEMENT_NOBODY == 255);
     HOLDS(PLACEMENT_NO_GRADE == SIZE_MAX);
 }
@@ -89,11 +89,13 @@ static void sheets_fit(struct book book)
 
 /* The longest sheets, with a byte after each field. Line one (W-204): n, rotations of four digits, fixed pairs, and a
  * grade of two digits or, with weights, five. The line of each of 64: student, mentor, letter, and a distance of as
- * many digits as the grade. */
+ * many digits as the grade. With moves, 64 lines under each of these: a space, student, old mentor, new mentor, and a
+ * sign with two digits. */
 static void longest_sheets(void)
 {
     HOLDS(PLACEMENT_LARGEST_SHEET == 3 + 5 + 3 + 3 + 64 * (3 + 3 + 2 + 3));
     HOLDS(PLACEMENT_LARGEST_WEIGHTED_SHEET == 3 + 5 + 3 + 6 + 64 * (3 + 3 + 2 + 6));
+    HOLDS(PLACEMENT_LARGEST_MOVES == PLACEMENT_LARGEST_SHEET + 64 * 64 * (1 + 3 + 3 + 3 + 4));
 }
 
 /* The largest of each. The xor lists have the most rotations there can be, and the longest list of them. */

@@ -101,3 +101,15 @@ class Market(Book):
             letter, total, _ = self.repair(m, s, weights)
             lines.append(f"{s} {'-' if m[s] == NOBODY else m[s]} {letter} {total}")
         return lines
+
+    def moves(self, m):
+        """The lines of the sheet without weights, and under each student's those of the students whom the repair of his
+        pair moves: a space, the student, his old mentor, his new one and the places gained with a sign."""
+        ones = [1] * self.n
+        first, *own = self.sheet(m, ones)
+        lines = [first]
+        for s, line in zip(self.people, own, strict=True):
+            new = self.repair(m, s, ones)[2] or m
+            gains = enumerate(self.gains(m, new))
+            lines += [line] + [f" {i} {m[i]} {new[i]} {gain:+}" for i, gain in gains if gain != 0]
+        return lines

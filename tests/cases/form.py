@@ -1,6 +1,6 @@
 """The form of a case and of its line, as tests/make_cases.py documents it, and the replies of include/placement.h."""
 
-# The calls by number: in the order of include/placement.h, but the two by a mentor's number come last
+# The calls by number: in the order of include/placement.h, but the two by a mentor's number and the moves come last
 (
     CHECK_BOOK,
     BOOK_SIZE,
@@ -23,7 +23,8 @@
     WEIGHTED_SHEET,
     REPAIR_MENTOR,
     WEIGHTED_REPAIR_MENTOR,
-) = range(21)
+    MOVES,
+) = range(22)
 
 
 def fine(value, place=0):

@@ -23,7 +23,7 @@ static uint8_t *matching, *weights;
 static size_t book_len, matching_len, set_len, student;
 
 /* Results. */
-static uint8_t out[PLACEMENT_LARGEST_ROTATION_LIST];
+static uint8_t out[PLACEMENT_LARGEST_MOVES];
 static int8_t gains[PLACEMENT_LARGEST_N];
 static struct placement_reply reply;
 
@@ -64,6 +64,7 @@ CALL(precedes, input, book_len, 0, set_len == 0 ? 0 : set_len - 1)
 CALL(set_to_matching, input, book_len, set, set_len, out, sizeof out)
 CALL(matching_to_set, PLACED, out, sizeof out)
 CALL(sheet, input, book_len + matching_len, out, sizeof out)
+CALL(moves, input, book_len + matching_len, out, sizeof out)
 CALL(weighted_repair, PLACED, weights, matching_len, REQUEST, RESULTS)
 CALL(weighted_repair_mentor, PLACED, weights, matching_len, matching[student], RESULTS)
 CALL(weighted_grade, PLACED, weights, matching_len)
@@ -104,6 +105,7 @@ static struct {
     {"set_to_matching", set_to_matching, PLACEMENT_STACK_ROTATIONS, {0}},
     {"matching_to_set", matching_to_set, PLACEMENT_STACK_ROTATIONS, {0}},
     {"sheet", sheet, PLACEMENT_STACK_MATCHINGS, {0}},
+    {"moves", moves, PLACEMENT_STACK_MOVES, {0}},
     {"weighted_repair", weighted_repair, PLACEMENT_STACK_MATCHINGS, {0}},
     {"weighted, two pairs", weighted_repair_two, PLACEMENT_STACK_MATCHINGS, {0}},
     {"weighted_repair_mentor", weighted_repair_mentor, PLACEMENT_STACK_MATCHINGS, {0}},

@@ -60,6 +60,7 @@ extern "C" {
         out_len: usize,
     ) -> Reply;
     pub fn placement_sheet(input: *const u8, input_len: usize, out: *mut u8, out_len: usize) -> Reply;
+    pub fn placement_moves(input: *const u8, input_len: usize, out: *mut u8, out_len: usize) -> Reply;
     pub fn placement_weighted_repair(
         book: *const u8,
         book_len: usize,

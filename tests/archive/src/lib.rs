@@ -1,9 +1,10 @@
 //! The functions of include/placement.h as the linked archive has them, over slices. An empty slice is passed as a
 //! null pointer and length 0. `between` looks at a repaired matching beside another stable one, `printed` reads a sheet
-//! back.
+//! back, and `moves` a sheet with moves.
 
 pub mod between;
 mod c;
+pub mod moves;
 pub mod printed;
 
 pub use reply::{Reply, NO_GRADE};
@@ -121,6 +122,10 @@ pub fn matching_to_set(book: &[u8], matching: &[u8], out: &mut [u8]) -> Reply {
 
 pub fn sheet(input: &[u8], out: &mut [u8]) -> Reply {
     unsafe { c::placement_sheet(at(input), input.len(), at_mut(out), out.len()) }
+}
+
+pub fn moves(input: &[u8], out: &mut [u8]) -> Reply {
+    unsafe { c::placement_moves(at(input), input.len(), at_mut(out), out.len()) }
 }
 
 pub fn weighted_repair(

@@ -2,7 +2,8 @@
  *
  *     calls WHO CALL TIMES < INPUT       WHO: archive or c; INPUT: a book and then a matching
  *
- * against_c counts its instructions. Both have to give the same bytes: they are written to standard output. */
+ * against_c counts its instructions. Both have to give the same bytes: they are written to standard output. The sheet
+ * with moves, whose instructions tests/bench/moves counts, is a call of the archive alone. */
 #define LIMIT 64
 #define API static __attribute__((unused))
 #include "lib.c"
@@ -10,7 +11,7 @@
 #include <stdio.h>
 #include <stdlib.h>
 
-enum { INPUT = 2 + 8 * LIMIT + 2 * LIMIT * LIMIT + LIMIT + 1, ROOM = 3 * LIMIT * LIMIT };
+enum { INPUT = 2 + 8 * LIMIT + 2 * LIMIT * LIMIT + LIMIT + 1, ROOM = PLACEMENT_LARGEST_MOVES };
 
 static u8 input[INPUT], out[ROOM];
 static int8_t gains[LIMIT];
@@ -30,6 +31,7 @@ static void archive_call(const char *call, size_t k)
     if (!strcmp(call, "rotations")) used = placement_rotations(input, size, out, ROOM).value;
     if (!strcmp(call, "precedes")) out[0] = (u8)placement_precedes(input, size, 0, k % 2).value, used = 1;
     if (!strcmp(call, "sheet")) used = placement_sheet(input, len, out, ROOM).value;
+    if (!strcmp(call, "moves")) used = placement_moves(input, len, out, ROOM).value;
 }
 
 static void c_call(const char *call, size_t k)

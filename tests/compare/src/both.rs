@@ -1,7 +1,7 @@
 //! Each call on both libraries, with equal inputs and equal result buffers, compared in reply and in every byte of the
 //! buffers and of the guard bytes before and after them. What the archive reports of a repair is recounted from its
 //! gains in `recount`, and what it writes held against other stable matchings in `between` and, for two pairs, in
-//! `pairs`. The calls for a sheet stand in `printed`, those by a mentor's number in `by_mentor`.
+//! `pairs`. The calls for a sheet stand in `printed` and `moves`, those by a mentor's number in `by_mentor`.
 
 use crate::tally::{hex, Tally};
 use independent::calls;

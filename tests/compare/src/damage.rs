@@ -81,8 +81,8 @@ pub fn ask_all(both: &mut Both, sound: &Sound, damaged: &[u8], matching: &[u8]) 
     let request = [0, matching.first().copied().unwrap_or(0)];
     both.repair(damaged, matching, &request, n, n);
     both.repair(damaged, &[], &[], 0, 0);
-    both.sheet(damaged, 1024);
-    both.sheet(&[damaged, matching].concat(), little_room);
+    both.sheets(damaged, 1024);
+    both.sheets(&[damaged, matching].concat(), little_room);
     let weights = weights::any_length(n, &mut both.random);
     both.weighted_grade(damaged, matching, &weights);
     both.weighted_repair(damaged, matching, &weights, &request, [n, n]);
@@ -98,14 +98,14 @@ fn ask_sheets(both: &mut Both, sound: &Sound, matching: &[u8]) {
     let weighted = [&input[..], &weights::any(sound.n, &mut both.random)].concat();
     for _ in 0..3 {
         let (length, weighted_length) = (both.random.below(input.len() + 1), both.random.below(weighted.len() + 1));
-        both.sheet(&input[..length], 1024);
+        both.sheets(&input[..length], 1024);
         both.weighted_sheet(&weighted[..weighted_length], 1024);
     }
     for length in [input.len().saturating_sub(1), input.len(), input.len() + 1, weighted.len() - 1] {
         both.weighted_sheet(&weighted[..length.min(weighted.len())], 1024);
     }
-    both.sheet(&[&input[..], &[0]].concat(), 1024);
-    both.sheet(&[&input[..], &vec![0; 8771]].concat(), 1024);
+    both.sheets(&[&input[..], &[0]].concat(), 1024);
+    both.sheets(&[&input[..], &vec![0; 8771]].concat(), 1024);
     both.weighted_sheet(&[&weighted[..], &[0]].concat(), 1024);
     both.weighted_sheet(&[&weighted[..], &vec![0; 8835]].concat(), 1024);
 }

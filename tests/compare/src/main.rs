@@ -8,6 +8,7 @@ mod between;
 mod both;
 mod by_mentor;
 mod damage;
+mod moves;
 mod pairs;
 mod pairs_tally;
 mod printed;

@@ -1,5 +1,5 @@
-//! The calls for a sheet. Beyond its bytes, the first line of the archive's sheet is held against its other lines and
-//! against the archive's grade call (W-204).
+//! The calls for a sheet without moves. Beyond its bytes, the first line of the archive's sheet is held against its
+//! other lines and against the archive's grade call (W-204).
 
 use crate::both::{Both, Lent};
 use archive::printed::{disagreement, Printed};
@@ -7,6 +7,12 @@ use independent::reply::Reply;
 use independent::{book, calls, sheet};
 
 impl Both {
+    /// The sheet and the sheet with moves, in buffers of the same length.
+    pub fn sheets(&mut self, input: &[u8], room: usize) {
+        self.sheet(input, room);
+        self.moves(input, room);
+    }
+
     pub fn sheet(&mut self, input: &[u8], room: usize) {
         let archive = |out: &mut [u8]| archive::sheet(input, out);
         let sheets = self.lending("sheet", &[input], room, archive, |out| calls::sheet(input, out));

@@ -148,8 +148,8 @@ impl Sound {
         sets.iter().map(|set| self.poset.matching(set)[..self.n].to_vec()).collect()
     }
 
-    /// A stable matching: its set, its grade, its sheet and the repairs of all its pairs, plain and weighted, also by
-    /// the mentors' numbers, and of some two of them at one go.
+    /// A stable matching: its set, its grade, its sheet, also with moves, and the repairs of all its pairs, plain and
+    /// weighted, also by the mentors' numbers, and of some two of them at one go.
     fn ask_matching(&self, both: &mut Both, matching: &[u8]) {
         both.check_matching(&self.book, matching);
         both.grade(&self.book, matching);
@@ -161,6 +161,7 @@ impl Sound {
         for room in [size, size - 1, 1024] {
             both.sheet(&input, room);
         }
+        self.ask_moves(both, &input);
         let plain = |man: usize| {
             let more = both.random.below(3);
             both.repair(&self.book, matching, &[man as u8, matching[man]], self.n + more, self.n + 2 - more)
@@ -193,8 +194,8 @@ impl Sound {
         both.grade(&self.book, matching);
         both.matching_to_set(&self.book, matching, self.poset.count());
         let (input, little_room) = ([&self.book[..], matching].concat(), both.random.below(12));
-        both.sheet(&input, 1024);
-        both.sheet(&input, little_room);
+        both.sheets(&input, 1024);
+        both.sheets(&input, little_room);
         both.repair(&self.book, matching, &[0, matching.first().copied().unwrap_or(0)], self.n, self.n);
         both.repair(&self.book, matching, &[0], 0, self.n);
         self.ask_weighted_bad_matching(both, matching);

@@ -1,5 +1,6 @@
 //! Counts of what was compared, and the report of differences.
 
+use crate::moves::MovesTally;
 use crate::pairs_tally::PairsTally;
 use crate::sound::Sound;
 use archive::printed::{Kind, Printed, KINDS};
@@ -36,6 +37,8 @@ pub struct Tally {
     pub beside: [[usize; 2]; 2],
     /// Requests for two pairs, plain and weighted.
     pub pairs: [PairsTally; 2],
+    /// Sheets with moves.
+    pub moves: MovesTally,
     /// Sheets of each kind, plain and weighted.
     pub shown: [[usize; KINDS.len()]; 2],
     /// Refusals by number; at 0 the calls that were not refused.
@@ -152,6 +155,7 @@ impl Tally {
             .chain(beside)
             .chain(shown)
             .chain(pairs)
+            .chain(self.moves.missing())
             .collect()
     }
 
@@ -170,6 +174,7 @@ impl Tally {
         }
         self.shown().for_each(|(call, kind, times)| println!("{call} with {}: {times}", kind.words()));
         [false, true].iter().for_each(|&weighted| self.pairs[weighted as usize].print(weighted));
+        self.moves.print();
         print_refusals("refused", &self.refusals);
         print_refusals("refused by mentor", &self.refusals_by_mentor);
         println!("differences {}", self.differences);

@@ -5,6 +5,7 @@ use crate::book;
 use crate::gale_shapley;
 use crate::instance::{self, Instance};
 use crate::matching::{self, Matching, Partners, ALONE};
+use crate::moves;
 use crate::pairs;
 use crate::poset::Poset;
 use crate::repair::{self, Answer, Repairs};
@@ -227,6 +228,10 @@ pub fn matching_to_set(book: &[u8], matching: &[u8], out: &mut [u8]) -> Reply {
 
 pub fn sheet(input: &[u8], out: &mut [u8]) -> Reply {
     lend_text(out, &sheet::text(input))
+}
+
+pub fn moves(input: &[u8], out: &mut [u8]) -> Reply {
+    lend_text(out, &moves::text(input))
 }
 
 pub fn weighted_sheet(input: &[u8], out: &mut [u8]) -> Reply {

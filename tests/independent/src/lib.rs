@@ -15,6 +15,7 @@
 //!   with weights of 1
 //! - `pairs`: repairs of two pairs at one go
 //! - `sheet`: the printed sheet, plain and weighted
+//! - `moves`: the sheet with the moves of each repair
 //! - `calls`: the functions of include/placement.h over slices
 //! - `reply`, `groups`, `bits`: the form of the answers, a form of storage, sets as numbers
 //! - `random`, `samples`, `short_samples`: books to try: random ones, and ones with many stable matchings; short lists
@@ -26,6 +27,7 @@ pub mod gale_shapley;
 pub mod groups;
 pub mod instance;
 pub mod matching;
+pub mod moves;
 pub mod numbering;
 pub mod pairs;
 pub mod poset;

@@ -69,7 +69,7 @@ fn write(book: &[u8], given: &[u8], weights: &[u8], sheet: &mut Vec<u8>) -> Chec
 }
 
 /// Writes a number in base ten, and what comes after it.
-fn number(sheet: &mut Vec<u8>, value: usize, after: u8) {
+pub fn number(sheet: &mut Vec<u8>, value: usize, after: u8) {
     let mut ten = 1;
     while value / ten >= 10 {
         ten *= 10;

@@ -113,6 +113,8 @@ impl Known {
         let input = [&self.book[..], &bytes(given)].concat();
         let sheet = self.market.sheet(&self.stable, self.rotations.len(), given, &ones);
         assert_eq!(String::from_utf8(independent::sheet::text(&input)).unwrap(), sheet);
+        let moves = self.market.with_moves(&self.stable, &sheet, given);
+        assert_eq!(String::from_utf8(independent::moves::text(&input)).unwrap(), moves);
     }
 
     /// A call for the repair of a man's pair, by a request or by the woman's number.

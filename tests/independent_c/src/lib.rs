@@ -175,6 +175,11 @@ pub unsafe extern "C" fn placement_sheet(input: *const u8, input_len: usize, out
 }
 
 #[no_mangle]
+pub unsafe extern "C" fn placement_moves(input: *const u8, input_len: usize, out: *mut u8, out_len: usize) -> Reply {
+    calls::moves(lent(input, input_len), lent_mut(out, out_len))
+}
+
+#[no_mangle]
 pub unsafe extern "C" fn placement_weighted_repair(
     book: *const u8,
     book_len: usize,

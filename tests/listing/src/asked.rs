@@ -10,8 +10,8 @@ use crate::matching::Matching;
 use crate::reply::{granted, refused, Granted, Refusal, Reply};
 use crate::rotation::list_bytes;
 use crate::runs::Runs;
-use crate::sheet;
 use crate::stable::Listing;
+use crate::{moves, sheet};
 use std::cell::OnceCell;
 
 /// Bytes that are asked about as a book: their n or the rule they break, and what has been listed.
@@ -178,16 +178,23 @@ pub fn write_book(n: usize, lists: &[u8], out: &mut [u8]) -> Reply {
     granted(book.len())
 }
 
-/// The sheet of a book with a matching after it; the value is how many bytes it has written.
-pub fn sheet(input: &[u8], out: &mut [u8]) -> Reply {
-    let text = sheet::text(input);
+/// A text that is printed to a buffer; the value is how many bytes it has written.
+pub fn print(text: &str, out: &mut [u8]) -> Reply {
     put(out, text.as_bytes())?;
     granted(text.len())
 }
 
-/// The weighted sheet of a book with a matching and weights after it; the value is how many bytes it has written.
+/// The sheet of a book with a matching after it.
+pub fn sheet(input: &[u8], out: &mut [u8]) -> Reply {
+    print(&sheet::text(input), out)
+}
+
+/// The sheet with moves of a book with a matching after it.
+pub fn moves(input: &[u8], out: &mut [u8]) -> Reply {
+    print(&moves::texts(input)[1], out)
+}
+
+/// The weighted sheet of a book with a matching and weights after it.
 pub fn weighted_sheet(input: &[u8], out: &mut [u8]) -> Reply {
-    let text = sheet::weighted_text(input);
-    put(out, text.as_bytes())?;
-    granted(text.len())
+    print(&sheet::weighted_text(input), out)
 }

@@ -20,6 +20,7 @@
 //! - `between`: a repair beside the stable matchings that part the pair on the same side
 //! - `pairs`: the four sorts of two pairs, their candidates, the answer
 //! - `sheet`: the printed sheet, plain and weighted
+//! - `moves`: the sheet with the moves of each repair
 //! - `asked`, `repair_calls`: the calls of include/placement.h
 
 pub mod asked;
@@ -27,6 +28,7 @@ pub mod between;
 pub mod book;
 pub mod lists;
 pub mod matching;
+pub mod moves;
 pub mod pairs;
 pub mod people;
 pub mod repair;

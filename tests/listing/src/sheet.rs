@@ -39,8 +39,8 @@ pub fn weighted_text(input: &[u8]) -> String {
     printed(&Asked::new(book), matching, weights)
 }
 
-/// What is printed: "A refusal prints `refused`, a space and its number alone."
-fn printed(asked: &Asked, matching: &[u8], weights: &[u8]) -> String {
+/// What is printed of a matching with weights: "A refusal prints `refused`, a space and its number alone."
+pub(crate) fn printed(asked: &Asked, matching: &[u8], weights: &[u8]) -> String {
     match asked.weighed(matching, weights) {
         Ok((given, weights)) => lines(asked, &given, weights),
         Err(refusal) => format!("refused {}\n", refusal.number),

@@ -1,7 +1,7 @@
 //! Each call on the archive and on the listing, with equal inputs and equal result buffers, compared in every field
 //! of the reply and in every byte of the buffers and of the guard bytes around them. What the archive reports of a
 //! repair is recounted from its gains in `recount`, and what it writes held against other stable matchings in
-//! `between`. The calls for a sheet stand in `printed`, those by a mentor's number in `by_mentor`.
+//! `between`. The calls for a sheet stand in `printed` and `moves`, those by a mentor's number in `by_mentor`.
 
 use crate::calls::Call;
 use crate::lent::Lent;

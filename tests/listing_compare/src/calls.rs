@@ -27,10 +27,11 @@ pub enum Call {
     WeightedSheet,
     RepairMentor,
     WeightedRepairMentor,
+    Moves,
 }
 
 /// How many calls there are, and the number after the last rule's.
-pub const COUNT: usize = 21;
+pub const COUNT: usize = 22;
 pub const RULES: usize = 20;
 
 /// The rules that every call that takes a book may be refused by.
@@ -59,15 +60,17 @@ const CALLS: [(Call, bool, &[usize]); COUNT] = [
     (Call::WeightedSheet, false, &[14]),
     (Call::RepairMentor, true, &[8, 9, 19, 10, 11, 12, 14]),
     (Call::WeightedRepairMentor, true, &[8, 9, 19, 10, 17, 11, 12, 14]),
+    (Call::Moves, false, &[14]),
 ];
 
 /// The calls for a repair: by a request and by a mentor's number, plain and weighted.
 pub const REPAIRS: [Call; 4] = [Call::Repair, Call::WeightedRepair, Call::RepairMentor, Call::WeightedRepairMentor];
 
 /// The refusals that each call prints as a sheet; rule 4 does not occur, since bytes past the book are no part of it.
-const PRINTS: [(Call, &[usize]); 2] = [
+const PRINTS: [(Call, &[usize]); 3] = [
     (Call::Sheet, &[1, 2, 3, 5, 6, 7, 18, 8, 9, 19, 10]),
     (Call::WeightedSheet, &[1, 2, 3, 5, 6, 7, 18, 8, 9, 19, 10, 17]),
+    (Call::Moves, &[1, 2, 3, 5, 6, 7, 18, 8, 9, 19, 10]),
 ];
 
 /// Whether a call may be refused by a rule for a book of an edition. In edition 1 no mentor is alone, so that none who
@@ -94,10 +97,10 @@ pub fn prints(edition: Edition) -> impl Iterator<Item = (Call, usize)> {
     all.filter(move |&refusal| in_edition(edition, refusal))
 }
 
-/// Each call that prints a sheet, with a kind that it can be of for a book of an edition. In edition 1 nobody is alone,
-/// and without weights a repair has distance 2 at least.
+/// Each call that prints a sheet without moves, with a kind that it can be of for a book of an edition. In edition 1
+/// nobody is alone, and without weights a repair has distance 2 at least.
 pub fn shows(edition: Edition) -> impl Iterator<Item = (Call, Kind)> {
-    let all = PRINTS.into_iter().flat_map(|(call, _)| KINDS.map(|kind| (call, kind)));
+    let all = [Call::Sheet, Call::WeightedSheet].into_iter().flat_map(|call| KINDS.map(|kind| (call, kind)));
     all.filter(move |&(call, kind)| match kind {
         Kind::FixedAndAlone => edition == Edition::Two,
         Kind::GradeZero => call == Call::WeightedSheet,

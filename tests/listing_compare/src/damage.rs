@@ -53,9 +53,9 @@ impl Both {
         self.rotation_count(&copy);
         for room in [200, 0] {
             self.rotations(&copy, room);
-            self.sheet(&[bytes, matching].concat(), room);
         }
-        self.sheet(bytes, 200);
+        self.sheets(&[bytes, matching].concat(), &[[200, 500], [0, 0]]);
+        self.sheets(bytes, &[[200, 200]]);
         self.precedes(&copy, 0, 0);
         self.precedes(&copy, usize::MAX, 0);
         self.set_to_matching(&copy, &vec![0; rotations], n);

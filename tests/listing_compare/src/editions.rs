@@ -10,7 +10,7 @@ use crate::weights::WEIGHTS;
 use archive::Reply;
 
 /// A room that is enough for n = 3, for each result.
-const ROOM: usize = 64;
+const ROOM: usize = 128;
 
 /// A book of n students in both editions.
 struct Editions<'a> {
@@ -103,6 +103,7 @@ impl Editions<'_> {
         self.alike(Call::WeightedGrade, |book, _, _| archive::weighted_grade(book, matching, weights));
         self.alike(Call::MatchingToSet, |book, out, _| archive::matching_to_set(book, matching, out));
         self.alike(Call::Sheet, |book, out, _| archive::sheet(&[book, matching].concat(), out));
+        self.alike(Call::Moves, |book, out, _| archive::moves(&[book, matching].concat(), out));
         self.alike(Call::WeightedSheet, |book, out, _| {
             archive::weighted_sheet(&[book, matching, weights].concat(), out)
         });
@@ -114,6 +115,7 @@ impl Editions<'_> {
         for string in [vec![], vec![0; self.n], vec![n; self.n], vec![0; self.n + 1]] {
             self.alike(Call::CheckMatching, |book, _, _| archive::check_matching(book, &string));
             self.alike(Call::Sheet, |book, out, _| archive::sheet(&[book, &string].concat(), out));
+            self.alike(Call::Moves, |book, out, _| archive::moves(&[book, &string].concat(), out));
         }
         let (start, entries) = (2 + 8 * self.n, 2 * self.n * self.n);
         for entry in if n == 0 { 0..0 } else { 0..n + 1 } {

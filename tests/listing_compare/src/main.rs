@@ -4,7 +4,7 @@
 //! Prints how much was compared and how often each rule was met. Exits with 1 on any difference, or where a call
 //! never gave a result or never met one of its rules, or no sheet printed a refusal that it can or was of a kind that
 //! it can be, or no repair moved students and left others, or none left a student whom a stable matching on its side
-//! moves, or something never came of requests for two pairs, in each edition.
+//! moves, or something never came of requests for two pairs or was never shown by a sheet with moves, in each edition.
 
 mod between;
 mod beyond;
@@ -19,6 +19,7 @@ mod editions;
 mod lent;
 mod lists;
 mod marks;
+mod moves;
 mod numbers;
 mod pairs;
 mod print;

@@ -3,6 +3,7 @@
 use crate::calls::{Call, REPAIRS, RULES};
 use crate::pairs::{Came, ANSWERS};
 use crate::tally::Tally;
+use archive::moves::KINDS as MOVES_KINDS;
 use archive::printed::KINDS;
 use listing::book::Edition;
 
@@ -36,6 +37,7 @@ pub fn sound(tally: &Tally) {
     println!("sets {}", tally.sets);
     println!("sheets {}", tally.sheets);
     shown("sheets", Call::Sheet, tally);
+    with_moves(tally);
     println!("weighted matchings {}", tally.weighted_matchings);
     letters("weighted answers", tally.weighted_letters);
     letters("weighted answers by mentor", tally.weighted_letters_by_mentor);
@@ -70,6 +72,16 @@ fn shown(words: &str, call: Call, tally: &Tally) {
     }
 }
 
+/// How many sheets with moves are of each kind, and the lines under pairs.
+fn with_moves(tally: &Tally) {
+    for kind in MOVES_KINDS {
+        println!("sheets with moves and {} {}", kind.words(), tally.moves.of(kind));
+    }
+    println!("moves for the better {}", tally.moves.better);
+    println!("moves for the worse {}", tally.moves.worse);
+    println!("bytes of lines with moves {}", tally.moves.bytes);
+}
+
 /// The counts of the second part.
 pub fn beyond(words: &str, tally: &Tally) {
     println!("{words}: books {}", tally.books);
@@ -95,6 +107,7 @@ pub fn rules(tally: &Tally) {
     }
     println!("sheets that print a refusal {}", tally.printed(Call::Sheet));
     println!("weighted sheets that print a refusal {}", tally.printed(Call::WeightedSheet));
+    println!("sheets with moves that print a refusal {}", tally.printed(Call::Moves));
     for (words, call) in
         ["repairs", "weighted repairs", "repairs by mentor", "weighted repairs by mentor"].iter().zip(REPAIRS)
     {

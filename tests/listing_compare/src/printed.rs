@@ -1,5 +1,5 @@
-//! The calls for a sheet. Beyond its bytes, the first line of the archive's sheet is held against its other lines and
-//! against the archive's grade call (W-204).
+//! The calls for a sheet without moves. Beyond its bytes, the first line of the archive's sheet is held against its
+//! other lines and against the archive's grade call (W-204).
 
 use crate::both::Both;
 use crate::calls::Call;
@@ -9,10 +9,10 @@ use archive::Reply;
 use listing::{asked, sheet};
 
 impl Both {
-    /// The sheet of a book with a matching after it.
-    pub fn sheet(&mut self, input: &[u8], room: usize) {
+    /// The sheet of a book with a matching after it, of which this text is due.
+    pub fn sheet(&mut self, input: &[u8], text: &str, room: usize) {
         let archive = |out: &mut [u8]| archive::sheet(input, out);
-        let sheets = self.lending(Call::Sheet, &[input], room, archive, |out| asked::sheet(input, out));
+        let sheets = self.lending(Call::Sheet, &[input], room, archive, |out| asked::print(text, out));
         let (book, matching) = sheet::parts(input);
         let grade = || archive::grade(book, matching);
         self.printed(Call::Sheet, input, sheets, &vec![1; matching.len()], grade);
@@ -48,7 +48,7 @@ impl Both {
 }
 
 /// The number of the refusal that a sheet prints, if it prints one.
-fn printed_refusal(text: &[u8]) -> Option<usize> {
+pub fn printed_refusal(text: &[u8]) -> Option<usize> {
     std::str::from_utf8(text).ok()?.strip_prefix("refused ")?.trim_end().parse().ok()
 }
 

@@ -1,5 +1,5 @@
 //! What is asked of every book: the extremes, the rotations and their order, sets, and of its matchings the check,
-//! the repairs of all pairs, the grade, the set and the sheet. Result buffers are long enough.
+//! the repairs of all pairs, the grade, the set and the sheet, also with moves. Result buffers are long enough.
 
 use crate::both::Both;
 use crate::tally::letter_place;
@@ -9,10 +9,11 @@ use listing::matching::Matching;
 use listing::people::{Man, Woman};
 use listing::weights::Weights;
 
-/// Rooms that are enough for n up to 6: a matching, gains or a set; the list of rotations; a sheet.
+/// Rooms that are enough for n up to 6: a matching, gains or a set; the list of rotations; a sheet; one with moves.
 const ROOM: usize = 16;
 const LIST_ROOM: usize = 200;
 const SHEET_ROOM: usize = 64;
+const MOVES_ROOM: usize = SHEET_ROOM + 6 * 6 * 10;
 
 impl Both {
     /// Asks what is asked of a book alone.
@@ -82,7 +83,7 @@ impl Both {
         }
         self.grade(book, matching);
         self.tally.sheets += 1;
-        self.sheet(&[book.book(), matching].concat(), SHEET_ROOM);
+        self.sheets(&[book.book(), matching].concat(), &[[SHEET_ROOM, MOVES_ROOM]]);
     }
 
     /// Asks what is asked of stable matchings alone: the answers for all pairs, also by their mentors, and for each two

@@ -4,7 +4,7 @@ use crate::both::Both;
 use crate::weights::WEIGHTS;
 use listing::asked::Asked;
 use listing::people::Man;
-use listing::{rotation, sheet};
+use listing::{moves, rotation, sheet};
 
 impl Both {
     /// Asks with result buffers from none to two entries more than are needed.
@@ -31,7 +31,7 @@ impl Both {
         let best = book.listing().student_best().bytes();
         self.ask_sheet_rooms(&[book.book(), &best].concat());
         self.ask_sheet_rooms(book.book());
-        self.sheet(&[book.book(), &[0; 8771]].concat(), 64);
+        self.sheets(&[book.book(), &[0; 8771]].concat(), &[[64, 64]]);
         self.ask_weighted_sheet_rooms(&[book.book(), &best, &WEIGHTS[..n]].concat());
         self.ask_weighted_sheet_rooms(&[book.book(), &best].concat());
         self.weighted_sheet(&[book.book(), &best, &[0; 8835]].concat(), 64);
@@ -71,10 +71,14 @@ impl Both {
         }
     }
 
-    /// Asks for a sheet with the buffers of `sheet_rooms`.
+    /// Asks for a sheet, and for the sheet with moves, with the buffers of `sheet_rooms`.
     fn ask_sheet_rooms(&mut self, input: &[u8]) {
-        for room in sheet_rooms(sheet::text(input).len()) {
-            self.sheet(input, room);
+        let [sheet, moves] = moves::texts(input);
+        for room in sheet_rooms(sheet.len()) {
+            self.sheet(input, &sheet, room);
+        }
+        for room in sheet_rooms(moves.len()) {
+            self.moves(input, &moves, room);
         }
     }
 

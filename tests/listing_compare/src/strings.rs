@@ -61,9 +61,7 @@ impl Both {
         self.repair_mentor(book, string, 0, (n, n));
         self.repair_mentor(book, string, 255, (0, 0));
         if book.stable_matching(string).is_err() {
-            let input = [book.book(), string].concat();
-            self.sheet(&input, 16);
-            self.sheet(&input, 9);
+            self.sheets(&[book.book(), string].concat(), &[[16, 16], [9, 9]]);
         }
         self.ask_weighted_string(book, string, n);
     }

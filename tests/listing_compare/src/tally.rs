@@ -2,6 +2,7 @@
 
 use crate::between::Beside;
 use crate::calls::{prints, refused_by, shows, Call, COUNT, REPAIRS, RULES};
+use crate::moves::Shown;
 use crate::pairs::Pairs;
 use archive::printed::{Kind, Printed, KINDS};
 use archive::Reply;
@@ -52,6 +53,8 @@ pub struct Tally {
     printed: [[usize; RULES]; COUNT],
     /// For each call how many sheets of each kind it printed.
     shown: [[usize; KINDS.len()]; COUNT],
+    /// What sheets with moves showed.
+    pub moves: Shown,
     /// For each call how many repairs moved students who weigh more than 0 and left others who do.
     mixed: [usize; COUNT],
     /// Stable matchings beside repairs up, and beside repairs down, by the definitions.
@@ -153,12 +156,14 @@ impl Tally {
             *beside += more;
         }
         self.pairs.add(&other.pairs);
+        self.moves.add(&other.moves);
         self.differences += other.differences;
     }
 
     /// For books of an edition: the calls that never, but for two pairs, gave a result or met a rule that they have,
     /// the refusals and the kinds of sheets that they never printed, and the calls for a repair that never moved
-    /// students and left others, or never left one whom a stable matching on its side moves; the same of two pairs.
+    /// students and left others, or never left one whom a stable matching on its side moves; the same of two pairs; and
+    /// what sheets with moves never showed.
     pub fn missing(&self, edition: Edition) -> Vec<String> {
         let unmet =
             refused_by(edition).filter(|&(call, rule)| self.met[call as usize][rule] <= self.pairs.met(call, rule));
@@ -171,7 +176,8 @@ impl Tally {
         let unmixed = unmixed.map(|call| format!("{call:?} that moves students and leaves others"));
         let moving = REPAIRS.into_iter().filter(|&call| self.written_beside(call)[1] == 0);
         let moving = moving.map(|call| format!("{call:?} that leaves a student whom a stable matching moves"));
-        unmet.chain(unprinted).chain(unshown).chain(unmixed).chain(moving).chain(self.pairs.missing(edition)).collect()
+        let others = self.pairs.missing(edition).into_iter().chain(self.moves.missing(edition));
+        unmet.chain(unprinted).chain(unshown).chain(unmixed).chain(moving).chain(others).collect()
     }
 
     /// Counts a difference and prints it if it is one of the first; ends the program when there are many.
@@ -195,8 +201,8 @@ mod tests {
     /// repairs have moved students and left others, also such as another stable matching moves.
     fn complete() -> Tally {
         let (met, printed, shown) = ([[2; RULES]; COUNT], [[1; RULES]; COUNT], [[1; KINDS.len()]; COUNT]);
-        let (mixed, written_beside, pairs) = ([1; COUNT], [[1; 2]; COUNT], Pairs::complete());
-        Tally { met, printed, shown, mixed, written_beside, pairs, ..Tally::default() }
+        let (mixed, written_beside, pairs, moves) = ([1; COUNT], [[1; 2]; COUNT], Pairs::complete(), Shown::complete());
+        Tally { met, printed, shown, moves, mixed, written_beside, pairs, ..Tally::default() }
     }
 
     /// What was never met is missed, and nothing else.

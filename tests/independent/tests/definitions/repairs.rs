@@ -107,6 +107,23 @@ impl Market {
         }
         sheet
     }
+
+    /// A sheet in which each man weighs 1, with the moves: under each man's line one for each man whom the answer for
+    /// his pair moves, with his old woman, his new one and the places gained.
+    pub fn with_moves(&self, stable: &[Matching], sheet: &str, given: &Matching) -> String {
+        let mut lines = sheet.lines();
+        let mut text = format!("{}\n", lines.next().unwrap());
+        for (man, line) in lines.enumerate() {
+            text += &format!("{line}\n");
+            let answer = given[man].and_then(|_| self.answer(stable, given, &vec![1; self.n], man));
+            let Some((_, repaired)) = answer else { continue };
+            for i in (0..self.n).filter(|&i| repaired[i] != given[i]) {
+                let gain = self.place(i, given[i]) as isize - self.place(i, repaired[i]) as isize;
+                text += &format!(" {i} {} {} {gain:+}\n", given[i].unwrap(), repaired[i].unwrap());
+            }
+        }
+        text
+    }
 }
 
 /// Nothing, where there is nothing to choose from. A choice that has no extreme would break the lattice theorem.
