@@ -26,15 +26,15 @@ use Rattle.move_text.specs.Text.{movedLines}
 
 -- The line of man s of the matching m of n men, over a market and its place vector p, and under it the lines of those
 -- whom the answer for him moves
-abbrev pub blockIn : Market → (c p : ℕ → ℕ) → ℕ → List ℕ → List ℕ → ℕ → List ℕ
-blockIn I c p n mlists m s =
+abbrev pub lineAndMovesIn : Market → (c p : ℕ → ℕ) → ℕ → List ℕ → List ℕ → ℕ → List ℕ
+lineAndMovesIn I c p n mlists m s =
     studentLine s (womanOf m s) (letterIn I c p s) (distanceIn I c p s)
     ++ movedLines n mlists p (vectorAfter p (answerOf I c p s))
 
 -- Line one, and these of all men
 unfoldable pub movesIn : Market → (c p : ℕ → ℕ) → ℕ → List ℕ → List ℕ → List ℕ
 movesIn I c p n mlists m =
-    topLine n (total I) (fixedAmong n m (letterIn I c p)) (gradeIn I c p) ++ joined (blockIn I c p n mlists m) n
+    topLine n (total I) (fixedAmong n m (letterIn I c p)) (gradeIn I c p) ++ joined (lineAndMovesIn I c p n mlists m) n
 
 -- over what the check leaves
 abbrev pub movesOver : Record → (ℕ → ℕ) → Places → List ℕ → List ℕ
@@ -45,6 +45,6 @@ abbrev pub movesWith : (b m k : List ℕ) → List ℕ
 movesWith b m k = afterCheck (checkWeighed b m k) (moves b (weightOf k) m)
 
 -- What the functions that write it promise of the reply and of the buffer
-pub record Written (b m k out now : List ℕ) (r : Counted) : Type 0 where
+pub record TextWritten (b m k out now : List ℕ) (r : Counted) : Type 0 where
   pub reply : countOutcome r ≡ replyWith (movesWith b m k) (length out)
   pub bytes : now ≡ bufferWith (movesWith b m k) out

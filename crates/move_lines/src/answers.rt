@@ -29,7 +29,7 @@ ghost use Rattle.nearest.specs.Nearest.{GivenIn, BothWeighed};
 ghost use Rattle.sheets.specs.Line.{topLine};
 ghost use Rattle.sheets.specs.Reply.{replyWith, bufferWith};
 ghost use Rattle.sheet_text.specs.Put.{FiveDigits, ShortGrade, LinesGiven};
-ghost use Rattle.move_text.specs.Text.{blocks, PlacesRead, RowsRead};
+ghost use Rattle.move_text.specs.Text.{linesAndMoved, PlacesRead, RowsRead};
 ghost use Rattle.move_lines.specs.Over.{movesOver};
 
 // Writes line one and the lines of n men with those under them to the front of `out`, or refuses by 14 where that is
@@ -52,10 +52,10 @@ fn write_lines(
     requires { ⌜ LinesGiven n (now his) (now letters) (now distances) ⌝ }
     requires { ⌜ PlacesRead n (now mlists) (now men) × RowsRead n (now firsts) (now rows) ⌝ }
     ensures reply { λ r. ⌜ countOutcome r ≡ replyWith (topLine n rotations fixed (gradeAnswer grade)
-        ++ blocks n (entryIn (now₀ his)) (vec₀ letters) (vec₀ distances) (now₀ mlists) (vec₀ men) (vec₀ firsts) (now₀ rows))
+        ++ linesAndMoved n (entryIn (now₀ his)) (vec₀ letters) (vec₀ distances) (now₀ mlists) (vec₀ men) (vec₀ firsts) (now₀ rows))
         (length (now₀ out)) ⌝ }
     ensures bytes { λ _. ⌜ now₁ out ≡ bufferWith (topLine n rotations fixed (gradeAnswer grade)
-        ++ blocks n (entryIn (now₀ his)) (vec₀ letters) (vec₀ distances) (now₀ mlists) (vec₀ men) (vec₀ firsts) (now₀ rows))
+        ++ linesAndMoved n (entryIn (now₀ his)) (vec₀ letters) (vec₀ distances) (now₀ mlists) (vec₀ men) (vec₀ firsts) (now₀ rows))
         (now₀ out) ⌝ }
 {
     let top = top_length(n, rotations, fixed, grade);

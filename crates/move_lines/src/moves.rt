@@ -21,12 +21,12 @@ ghost use Rattle.stability.specs.Judge.{FromBook, EachBook};
 ghost use Rattle.sheets.specs.Line.{refusedLine};
 ghost use Rattle.sheets.specs.Reply.{replyWith, bufferWith};
 ghost use Rattle.weights.specs.Weights.{Light};
-ghost use Rattle.move_lines.specs.Over.{Written};
+ghost use Rattle.move_lines.specs.Over.{TextWritten};
 
 // Writes it to the front of `out`, or refuses by 14.
 pub(crate) fn write_for(book: &[u8], matching: &[u8], weights: &[u32], out: &mut [u8]) -> Counted
     requires { ⌜ Light (now weights) ⌝ }
-    ensures { λ r. ⌜ Written (now₀ book) (now₀ matching) (now₀ weights) (now₀ out) (now₁ out) r ⌝ }
+    ensures { λ r. ⌜ TextWritten (now₀ book) (now₀ matching) (now₀ weights) (now₀ out) (now₁ out) r ⌝ }
 {
     if is_small(book) {
         let mut mlists = [Instance::VACANT; Instance::SMALL_LISTS];
@@ -79,7 +79,7 @@ fn write_with(
     requires { ⌜ LongTables (now book) (now mlists) (now mranks) ⌝ }
     requires { ⌜ LongTables (now book) (now wlists) (now wranks) ⌝ }
     requires { ⌜ LongTables (now book) (now mlists) (now rows) × Light (now weights) ⌝ }
-    ensures { λ r. ⌜ Written (now₀ book) (now₀ matching) (now₀ weights) (now₀ out) (now₁ out) r ⌝ }
+    ensures { λ r. ⌜ TextWritten (now₀ book) (now₀ matching) (now₀ weights) (now₀ out) (now₁ out) r ⌝ }
 {
     let instance = load(book, mlists, mranks, wlists, wranks);
     let answer = instance.checked;
@@ -118,7 +118,7 @@ fn write_judged<'a>(
     requires { λ R. ⌜ lent n mlists mranks wlists wranks ≡ R ⌝ }
     requires { λ R. ⌜ FromBook answer partial R ⌝ }
     requires { λ _. ⌜ (n * n ≤ length (now rows)) × Light (now weights) ⌝ }
-    ensures { λ R r. ⌜ EachBook answer partial R (λ b. Written b (now₀ matching) (now₀ weights) (now₀ out) (now₁ out) r) ⌝ }
+    ensures { λ R r. ⌜ EachBook answer partial R (λ b. TextWritten b (now₀ matching) (now₀ weights) (now₀ out) (now₁ out) r) ⌝ }
 {
     let judged = judge(answer, n, partial, mlists, mranks, wlists, wranks, matching);
     let stable = judged.checked;

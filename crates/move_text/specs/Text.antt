@@ -23,13 +23,13 @@ abbrev pub movedLines : ℕ → List ℕ → (ℕ → ℕ) → (ℕ → ℕ) →
 movedLines n mlists p q = joined (λ i. movedLine n mlists i (p i) (q i)) n
 
 -- The line of man s, with entry w s, letter l s and distance d s, and under it those whom row `first s` moves from p
-abbrev pub block : ℕ → (w l d : ℕ → ℕ) → List ℕ → (p first : ℕ → ℕ) → List ℕ → ℕ → List ℕ
-block n w l d mlists p first rows s =
+abbrev pub lineAndMoved : ℕ → (w l d : ℕ → ℕ) → List ℕ → (p first : ℕ → ℕ) → List ℕ → ℕ → List ℕ
+lineAndMoved n w l d mlists p first rows s =
     studentLine s (w s) (l s) (d s) ++ movedLines n mlists p (cell rows n (first s))
 
 -- The same of n men
-abbrev pub blocks : ℕ → (w l d : ℕ → ℕ) → List ℕ → (p first : ℕ → ℕ) → List ℕ → List ℕ
-blocks n w l d mlists p first rows = joined (block n w l d mlists p first rows) n
+abbrev pub linesAndMoved : ℕ → (w l d : ℕ → ℕ) → List ℕ → (p first : ℕ → ℕ) → List ℕ → List ℕ
+linesAndMoved n w l d mlists p first rows = joined (lineAndMoved n w l d mlists p first rows) n
 
 -- Man i of few has both places on his row of the lists, and they are short
 pub record Readable (n : ℕ) (mlists : List ℕ) (i p q : ℕ) : Type 0 where
@@ -74,7 +74,7 @@ pub record RowsCounted (n : ℕ) (mlists : List ℕ) (p : ℕ → ℕ) (rows len
   pub few : {r : ℕ} → r < n → (vec lengths r ≡ uncounted → ⊥) → vec lengths r ≤ 26 * n
 
 -- The length r of row `row` is noted, and no other is changed
-pub record Noted (before after : ℕ → ℕ) (row r : ℕ) : Type 0 where
+pub record LengthNoted (before after : ℕ → ℕ) (row r : ℕ) : Type 0 where
   pub here : after row ≡ r
   pub others : (x : ℕ) → (x ≡ row → ⊥) → after x ≡ before x
 

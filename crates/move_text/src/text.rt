@@ -17,8 +17,8 @@ ghost use Rattle.laws.specs.Table.{cell};
 ghost use Rattle.laws.specs.Values.{vec};
 ghost use Rattle.format.specs.Format.{entryIn};
 ghost use Rattle.sheet_text.specs.Put.{Put, LinesGiven};
-ghost use Rattle.move_text.specs.Text.{movedLines, blocks, PlacesRead, RowRead, RowsRead};
-ghost use Rattle.move_text.specs.Text.{LinesRead, RowsCounted, Noted, MenCounted, RowsStand};
+ghost use Rattle.move_text.specs.Text.{movedLines, linesAndMoved, PlacesRead, RowRead, RowsRead};
+ghost use Rattle.move_text.specs.Text.{LinesRead, RowsCounted, LengthNoted, MenCounted, RowsStand};
 
 // Stands for a length that is not counted yet: the lines of a row have fewer bytes.
 pub const UNCOUNTED: u16 = 65535;
@@ -36,7 +36,7 @@ fn row_length(
     requires { ⌜ RowsCounted n (now mlists) (vec (now men)) (now rows) (now lengths) × (row < n) ⌝ }
     ensures length { λ r. ⌜ (r ≡ length (movedLines n (now₀ mlists) (vec₀ men) (cell (now₀ rows) n row))) × (r ≤ 26 * n) ⌝ }
     ensures noted { λ r. ⌜ RowsCounted n (now₀ mlists) (vec₀ men) (now₀ rows) (now₁ lengths)
-        × Noted (vec₀ lengths) (vec₁ lengths) row r ⌝ }
+        × LengthNoted (vec₀ lengths) (vec₁ lengths) row r ⌝ }
 {
     let known = lengths[row];
     if known != UNCOUNTED {
@@ -62,7 +62,7 @@ pub fn text_length(
     requires { ⌜ LinesRead n (now his) (now distances) ⌝ }
     requires { ⌜ PlacesRead n (now mlists) (now men) × RowsRead n (now firsts) (now rows) ⌝ }
     requires { ⌜ RowsCounted n (now mlists) (vec (now men)) (now rows) (now lengths) ⌝ }
-    ensures length { λ r. ⌜ ((l : ℕ → ℕ) → r ≡ length (blocks n (entryIn (now₀ his)) l (vec₀ distances)
+    ensures length { λ r. ⌜ ((l : ℕ → ℕ) → r ≡ length (linesAndMoved n (entryIn (now₀ his)) l (vec₀ distances)
         (now₀ mlists) (vec₀ men) (vec₀ firsts) (now₀ rows))) × (r ≤ 1684 * n) ⌝ }
     ensures noted { λ _. ⌜ MenCounted n (now₀ mlists) (vec₀ men) (vec₀ firsts) (now₀ rows) (vec₁ lengths) n ⌝ }
 {
@@ -126,9 +126,9 @@ pub fn put_text(
     requires { ⌜ LinesGiven n (now his) (now letters) (now distances) ⌝ }
     requires { ⌜ PlacesRead n (now mlists) (now men) × RowsRead n (now firsts) (now rows) × (n ≤ length (now lengths)) ⌝ }
     requires { ⌜ MenCounted n (now mlists) (vec (now men)) (vec (now firsts)) (now rows) (vec (now lengths)) n ⌝ }
-    requires { ⌜ at + length (blocks n (entryIn (now his)) (vec (now letters)) (vec (now distances))
+    requires { ⌜ at + length (linesAndMoved n (entryIn (now his)) (vec (now letters)) (vec (now distances))
         (now mlists) (vec (now men)) (vec (now firsts)) (now rows)) ≤ length (now out) ⌝ }
-    ensures { λ r. ⌜ Put (now₀ out) at (blocks n (entryIn (now₀ his)) (vec₀ letters) (vec₀ distances)
+    ensures { λ r. ⌜ Put (now₀ out) at (linesAndMoved n (entryIn (now₀ his)) (vec₀ letters) (vec₀ distances)
         (now₀ mlists) (vec₀ men) (vec₀ firsts) (now₀ rows)) (now₁ out) r ⌝ }
 {
     let mut starts = [0usize; Instance::LARGEST];

@@ -7,5 +7,4 @@ pub use lines::put_lines;
 pub use lines::put_refused;
 pub use lines::put_top;
 pub use text::put_byte;
-pub use text::put_decimal;
 pub use text::put_field;

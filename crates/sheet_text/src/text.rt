@@ -48,7 +48,7 @@ fn put_three(out: &mut [u8], at: usize, x: usize) -> usize
 }
 
 // Puts the digits of x, of which there are at most five.
-pub fn put_decimal(out: &mut [u8], at: usize, x: usize) -> usize
+pub(crate) fn put_decimal(out: &mut [u8], at: usize, x: usize) -> usize
     requires { ⌜ (at + length (decimal x) ≤ length (now out)) × FiveDigits x ⌝ }
     ensures { λ r. ⌜ Put (now₀ out) at (decimal x) (now₁ out) r ⌝ }
 {

@@ -1,7 +1,7 @@
 -- The sheet in the words of document 01, what its lines mean, and the sheet with those who are moved. Assumes nothing.
 pub mod Decimal
 pub mod Joined
-pub mod Listed
+pub mod RisingTexts
 pub mod Line
 pub mod LineLaws
 pub mod Longest

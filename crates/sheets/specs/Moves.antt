@@ -38,14 +38,14 @@ movesUnder b m (D v) = movesTo b m (matchingOf b v)
 movesUnder b m F = []
 
 -- The line of student s on the sheet, and the lines under it
-abbrev pub blockOf : List ℕ → (ℕ → ℕ) → List ℕ → ℕ → List ℕ
-blockOf b c m s =
+abbrev pub lineAndMoves : List ℕ → (ℕ → ℕ) → List ℕ → ℕ → List ℕ
+lineAndMoves b c m s =
     let a = answerFor b c m s in
     studentLine s (womanOf m s) (letterByte a) (distanceOf b c m a) ++ movesUnder b m a
 
 -- The sheet of a book and a stable matching with the lines of those who are moved
 unfoldable pub moves : List ℕ → (ℕ → ℕ) → List ℕ → List ℕ
-moves b c m = topOf b c m ++ joined (blockOf b c m) (people b)
+moves b c m = topOf b c m ++ joined (lineAndMoves b c m) (people b)
 
 -- of a book and a matching, where every student counts 1
 abbrev pub movesFor : List ℕ → List ℕ → List ℕ

@@ -1,7 +1,7 @@
 -- What the lines under a pair say: they are exactly those of the students whom the repair that document 01 takes moves,
 -- and there are none where every stable matching holds the pair, or where there is no pair; of a repair up each has
 -- `+`, of a repair down `-`. Assumes nothing.
-use Prim.Native.Nat.{ℕ, _-_, _<_}
+use Prim.Native.Nat.{ℕ, _-_, _≤_, _<_}
 use mathlib.Core.Path.{_≡_, refl, sym, _∙_}
 use mathlib.Core.Bool.{true, false}
 use mathlib.Core.List.{List, [], _∷_, _++_}
@@ -14,21 +14,25 @@ use Rattle.format.specs.Outcome.{gives}
 use Rattle.format.specs.Format.{people, nobody}
 use Rattle.stable_theory.specs.Repairs.Answer.{Answer, U, D, F, Answers, nearer-up, nearer-down, neither}
 use Rattle.stable_theory.specs.Repairs.AnswerLaws.{answer-of}
+use Rattle.stable_theory.specs.Repairs.Sides.{Side, upward, downward, EndsOn}
 use Rattle.matchings.specs.BookMarket.{market, market-proper}
 use Rattle.matchings.specs.Matching.{checkMatching, StableIn, manRank, womanOf, vectorOf}
 use Rattle.matchings.specs.Laws.Entries.{nobody-most}
+use Rattle.matchings.specs.Laws.Blocking.{alone-entry}
+use Rattle.matchings.specs.Laws.SamePlaced.{placed-too, alone-too}
 use Rattle.matchings.specs.Laws.StableCheck.{fine-stable}
-use Rattle.matchings.specs.Laws.StableVector.{vector-stable, place-rank}
+use Rattle.matchings.specs.Laws.StableVector.{vector-stable}
 use Rattle.rotations.specs.RotationList.{rotationCount}
 use Rattle.repairs.specs.Weights.{movedWeight}
 use Rattle.repairs.specs.Repair.{fixed, answerFor, withDistance}
-use Rattle.repairs.specs.Promise.{PairIn, InEvery, RepairUp, RepairDown, Takes, Lightest}
-use Rattle.repairs.specs.Laws.Bytes.{same-woman}
+use Rattle.repairs.specs.Promise.{PairIn, InEvery, Takes, Lightest}
+use Rattle.repairs.specs.Between.{RepairOn}
+use Rattle.repairs.specs.Laws.Bytes.{same-rank}
 use Rattle.repairs.specs.Laws.RepairBytes.{holds}
 use Rattle.repairs.specs.Laws.AnswerBytes.{written-bytes, reply-fixed, reply-takes, alone-answer}
 use Rattle.sheets.specs.Decimal.{decimalIn, decimal}
 use Rattle.sheets.specs.Joined.{joined}
-use Rattle.sheets.specs.Listed.{listed}
+use Rattle.sheets.specs.RisingTexts.{rising-texts}
 use Rattle.sheets.specs.Line.{line, topLine, studentLine, refusalLine}
 use Rattle.sheets.specs.Sheet.{bookPart, matchingPart, sheetOf}
 use Rattle.sheets.specs.SheetLaws.{RightSheet, pair-right, right}
@@ -68,14 +72,18 @@ pub record RightMoves (b : List ℕ) (c : ℕ → ℕ) (m : List ℕ) {sheet : L
   -- and nobody under a student without a mentor
   pub alone : {s : ℕ} → s < people b → womanOf m s ≡ nobody → under s ≡ []
 
--- two numbers differ exactly where the test of them fails
+-- at most and not equal is less
+less-than : {x y : ℕ} → x ≤ y → (x ≡ y → ⊥) → x < y
+less-than {x} {y} h ne = split y x (λ k. absurd (ne (omega arith))) (λ k. k)
+
+-- where the test of two numbers fails they differ
 test-fails : (x y : ℕ) → eqb x y ≡ false → x ≡ y → ⊥
 test-fails x y f e = let z : true ≡ false = rw (eq-eqb x y e) at f in let q : _≡_ {A = ℕ} 0 1 = cc in omega arith
 
 -- so the lines of those whom r moves are a list of them
 lists-moved : (b m r : List ℕ) → ListsMoved b m r (movesTo b m r)
 lists-moved b m r =
-    let L = listed (λ i. eqb (womanOf r i) (womanOf m i)) (moveFrom b m r) (people b) in
+    let L = rising-texts (λ i. eqb (womanOf r i) (womanOf m i)) (moveFrom b m r) (people b) in
     record {
       who = L .who;
       lines = L .lines;
@@ -95,7 +103,7 @@ module _ {b m : List ℕ} (S : StableIn b m) (c : ℕ → ℕ) {s : ℕ} where
   answered : PairIn b m s → Answers (market b) c (vectorOf b m) s (answerFor b c m s)
   answered P = answer-of (market-proper (S .matching .formed)) c (vector-stable S) (holds S P)
 
-  -- one that is not has those whom its repair moves
+  -- where it is not fixed, those whom its repair moves stand under it
   under-moved :
       PairIn b m s → (InEvery b m s → ⊥) → {a : Answer} → Answers (market b) c (vectorOf b m) s a →
       (r : List ℕ) × Takes b c m s r (gives (withDistance b c m a)) × Lightest b c m s r × ListsMoved b m r (movesUnder b m a)
@@ -138,33 +146,47 @@ module _ (input : List ℕ) where
   unfolding movesOf
   moves-refused e = rw e
 
--- A student of a stable matching m whom the matching r moves, where r is a repair
-module _ (b m r : List ℕ) (f : checkMatching b m ≡ fine) {i : ℕ} (u : i < people b) (ne : womanOf r i ≡ womanOf m i → ⊥) where
-  -- his places differ
-  places-differ : checkMatching b r ≡ fine → manRank b i (womanOf r i) ≡ manRank b i (womanOf m i) → ⊥
-  places-differ g e =
-      let A = fine-stable b m .0 f .matching in
-      let B = fine-stable b r .0 g .matching in
-      ne (same-woman A B u .1 (place-rank B u ∙ e ∙ sym (place-rank A u)))
+-- A student whom the stable matching r moves from the stable matching m
+module _ {b m r : List ℕ} (S : StableIn b m) (R : StableIn b r) {i : ℕ} (u : i < people b) (ne : womanOf r i ≡ womanOf m i → ⊥) where
+  -- has a mentor in both: his line names two mentors of the book
+  pub moved-placed : (womanOf m i < people b) × (womanOf r i < people b)
+  moved-placed =
+      split (people b) (womanOf m i)
+      (λ l. let z = alone-entry (S .matching) u l in absurd (ne (alone-too S R u z ∙ sym z)))
+      (λ l. (l, placed-too S R u l))
 
-  -- Of a repair up he is better off, and his line has `+` and the places that he gains
-  pub gains-up :
-      {s : ℕ} → RepairUp b m s r →
-      (manRank b i (womanOf r i) < manRank b i (womanOf m i))
-      × (moveFrom b m r i ≡ moveLine i (womanOf m i) (womanOf r i) (43 ∷ decimal (manRank b i (womanOf m i) - manRank b i (womanOf r i))))
-  gains-up R =
-      let d = places-differ (R .parts .stable) in
-      let l : manRank b i (womanOf r i) < manRank b i (womanOf m i) =
-      split (manRank b i (womanOf m i)) (manRank b i (womanOf r i)) (λ h. absurd (d (omega (arith, R .toward i u)))) (λ h. h) in
-      (l, rw (lt-ltb _ _ l) refl)
+  -- and other places
+  places-differ : manRank b i (womanOf r i) ≡ manRank b i (womanOf m i) → ⊥
+  places-differ e = ne (same-rank (S .matching) (R .matching) u e)
 
-  -- and of a repair down worse off, and it has `-` and the places that he loses
-  pub loses-down :
-      {s : ℕ} → RepairDown b m s r →
-      (manRank b i (womanOf m i) < manRank b i (womanOf r i))
-      × (moveFrom b m r i ≡ moveLine i (womanOf m i) (womanOf r i) (45 ∷ decimal (manRank b i (womanOf r i) - manRank b i (womanOf m i))))
-  loses-down R =
-      let d = places-differ (R .parts .stable) in
-      let l : manRank b i (womanOf m i) < manRank b i (womanOf r i) =
-      split (manRank b i (womanOf r i)) (manRank b i (womanOf m i)) (λ h. absurd (d (omega (arith, R .toward i u)))) (λ h. h) in
-      (l, rw (le-ltb (manRank b i (womanOf r i)) (manRank b i (womanOf m i)) (omega arith)) refl)
+-- The places gained are a number with its sign
+pub gain-above : {p q : ℕ} → q < p → gainField p q ≡ 43 ∷ decimal (p - q)
+gain-above {p} {q} h = rw (lt-ltb q p h)
+
+pub gain-below : {p q : ℕ} → p ≤ q → gainField p q ≡ 45 ∷ decimal (q - p)
+gain-below {p} {q} h = rw (le-ltb q p h)
+
+-- The sign of a side, and how far place q is from place p on it
+abbrev pub signOn : Side → ℕ
+signOn upward = 43
+signOn downward = 45
+
+abbrev pub apartOn : Side → ℕ → ℕ → ℕ
+apartOn upward p q = p - q
+apartOn downward p q = q - p
+
+-- Where a repair is up, whomever it moves is better off, and his line has `+` and the places that he gains; where it is
+-- down he is worse off, and it has `-` and the places that he loses
+pub moved-sign :
+    (side : Side) (b m r : List ℕ) → checkMatching b m ≡ fine → (s : ℕ) → RepairOn side b m s r →
+    {i : ℕ} → i < people b → (womanOf r i ≡ womanOf m i → ⊥) →
+    EndsOn side (manRank b i (womanOf r i)) (manRank b i (womanOf m i))
+    × (gainField (manRank b i (womanOf m i)) (manRank b i (womanOf r i)) ≡ signOn side ∷ decimal (apartOn side (manRank b i (womanOf m i)) (manRank b i (womanOf r i))))
+moved-sign upward b m r f s R {i} u ne =
+    let d = places-differ (fine-stable b m .0 f) (fine-stable b r .0 (R .parts .stable)) u ne in
+    let l : manRank b i (womanOf r i) < manRank b i (womanOf m i) = less-than (R .toward i u) d in
+    (l, gain-above l)
+moved-sign downward b m r f s R {i} u ne =
+    let d = places-differ (fine-stable b m .0 f) (fine-stable b r .0 (R .parts .stable)) u ne in
+    let l : manRank b i (womanOf m i) < manRank b i (womanOf r i) = less-than (R .toward i u) (λ e. d (sym e)) in
+    (l, gain-below (omega arith))

@@ -20,8 +20,6 @@ use Rattle.matchings.specs.declared.places.Judged.{Judged}
 use Rattle.matchings.specs.BookMarket.{market, market-proper}
 use Rattle.matchings.specs.Matching.{manChoice, womanOf, vectorOf, checkMatching, MatchingIn, StableIn}
 use Rattle.matchings.specs.Extreme.{matchingOf}
-use Rattle.matchings.specs.Laws.Blocking.{alone-entry}
-use Rattle.matchings.specs.Laws.SamePlaced.{placed-too, alone-too}
 use Rattle.matchings.specs.Laws.StableCheck.{fine-stable, choice-at}
 use Rattle.matchings.specs.Laws.StableVector.{place-rank, vector-stable, vector-back, stable-of}
 use Rattle.stability.specs.Laws.Judged.{BookJudged}
@@ -36,7 +34,8 @@ use Rattle.nearest.specs.Nearest.{vectorAfter}
 use Rattle.nearest.specs.Laws.Book.{judged-formed, judged-number, judged-alike, judged-men, answer-book, grade-book}
 use Rattle.sheets.specs.Joined.{joined, joined-same, joined-none}
 use Rattle.sheets.specs.Line.{topLine, studentLine}
-use Rattle.sheets.specs.Moves.{gainField, moveLine, moveFrom, movesTo, movesUnder, blockOf, moves}
+use Rattle.sheets.specs.Moves.{gainField, moveLine, moveFrom, movesTo, movesUnder, lineAndMoves, moves}
+use Rattle.sheets.specs.MovesLaws.{moved-placed}
 use Rattle.sheet_answers.specs.Laws.Over.{letter-book, distance-book, totals, fixed-book}
 use Rattle.move_text.specs.Text.{movedLine, movedLines}
 use Rattle.move_lines.specs.Over.{movesIn, movesOver}
@@ -81,14 +80,6 @@ module _ {b m : List ℕ} {R : Record} {j : Judged} (J : BookJudged b m R j) (f 
     new-place : {i : ℕ} → i < n → q i ≡ vectorOf b r i
     new-place {i} u = e i u ∙ sym (vector-back (judged-formed J f) K (student u))
 
-    -- who is moved has a mentor before and after
-    both-placed : {i : ℕ} → i < n → (womanOf r i ≡ womanOf m i → ⊥) → (womanOf m i < people b) × (womanOf r i < people b)
-    both-placed {i} u ne =
-        let v = student u in
-        split (people b) (womanOf m i)
-        (λ l. let z = alone-entry (S .matching) v l in absurd (ne (alone-too S X v z ∙ sym z)))
-        (λ l. (l, placed-too S X v l))
-
     -- the line of each student is that of the bytes
     line-book : (i : ℕ) → i < n → movedLine n (R .mlists) i (p i) (q i) ≡ pick (eqb (womanOf r i) (womanOf m i)) [] (moveFrom b m r i)
     line-book i u =
@@ -100,7 +91,7 @@ module _ {b m : List ℕ} {R : Record} {j : Judged} (J : BookJudged b m R j) (f 
         rw (eq-eqb (q i) (p i) kept, eq-eqb (womanOf r i) (womanOf m i) z) refl)
         (λ ne.
         let moved : q i ≡ p i → ⊥ = λ z. ne (W .1 (sym (new-place u) ∙ z ∙ old-place u)) in
-        let l = both-placed u ne in
+        let l = moved-placed S X v ne in
         rw (ne-eqb (q i) (p i) moved, ne-eqb (womanOf r i) (womanOf m i) ne)
         (rw (at-woman (S .matching) u (old-place u) (l .0), at-woman (X .matching) u (new-place u) (l .1))
         (ap₂ (λ (x y : ℕ). moveLine i (womanOf m i) (womanOf r i) (gainField x y))
@@ -150,4 +141,4 @@ module _ {b m : List ℕ} {R : Record} {j : Judged} (J : BookJudged b m R j) (f 
         (joined-same n
         (λ s u.
         ap₂ (λ (x y : List ℕ). x ++ y) (ap₂ (studentLine s (womanOf m s)) (letter-book J f c u) (distance-book J f c u)) (under-each u))
-        ∙ ap (joined (blockOf b c m)) (judged-number J f)))
+        ∙ ap (joined (lineAndMoves b c m)) (judged-number J f)))

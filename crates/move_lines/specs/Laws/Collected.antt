@@ -25,7 +25,7 @@ use Rattle.sheets.specs.Line.{topLine, studentLine}
 use Rattle.sheet_answers.specs.Over.{letterIn, fixedAmong}
 use Rattle.sheet_answers.specs.Laws.Fixed.{among-same}
 use Rattle.nearest.specs.Nearest.{gradeIn}
-use Rattle.move_text.specs.Text.{movedLine, blocks, PlacesRead, RowsRead}
+use Rattle.move_text.specs.Text.{movedLine, linesAndMoved, PlacesRead, RowsRead}
 use Rattle.move_lines.specs.Over.{movesIn, movesOver}
 
 -- the letters of the answers
@@ -62,7 +62,7 @@ module _ {R : Record} {p : Places} (G : GivenIn R p) {c : ℕ → ℕ} {firsts r
     -- what is put together is the text
     pub text-over :
         topLine n (r .groups .rotations) fixed (gradeAnswer (r .grade))
-        ++ blocks n (womanOf m) (vec letters) (vec distances) (R .mlists) men (vec firsts) rows
+        ++ linesAndMoved n (womanOf m) (vec letters) (vec distances) (R .mlists) men (vec firsts) rows
         ≡ movesOver R c p m
     unfolding movesIn
     text-over =

@@ -1,6 +1,6 @@
 -- How long the text can be: as the sheet, and under each student's line one line for each student. Assumes nothing.
 use Prim.Native.Nat.{ℕ, _+_, _-_, _*_, _≤_, _<_}
-use mathlib.Core.Path.{_≡_, refl, sym, _∙_, ap}
+use mathlib.Core.Path.{_≡_, refl, ap}
 use mathlib.Core.List.{List, [], _++_}
 use native.Mathlib.Omega.{arith}
 use native.Mathlib.Nat.{mul-le-mul}
@@ -10,14 +10,11 @@ use borrow.Author.Tests.{eq-eqb, ne-eqb}
 use Rattle.laws.specs.Choice.{pick, split, same}
 use Rattle.format.specs.Verdict.{Verdict, fine, refused}
 use Rattle.format.specs.Format.{largest, people}
-use Rattle.format.specs.Laws.Directory.{allowed-most}
 use Rattle.format.specs.Laws.Numbers.{numberOf}
 use Rattle.stable_theory.specs.Repairs.Answer.{Answer, Answers, nearer-up, nearer-down, neither}
 use Rattle.stable_theory.specs.Repairs.AnswerLaws.{answer-of}
 use Rattle.matchings.specs.BookMarket.{market, market-proper}
-use Rattle.matchings.specs.Matching.{manRank, manLength, checkMatching, womanOf, vectorOf, MatchingIn, StableIn}
-use Rattle.matchings.specs.Laws.Blocking.{alone-entry}
-use Rattle.matchings.specs.Laws.SamePlaced.{placed-too, alone-too}
+use Rattle.matchings.specs.Matching.{manRank, checkMatching, womanOf, vectorOf, StableIn}
 use Rattle.matchings.specs.Laws.StableCheck.{fine-stable}
 use Rattle.matchings.specs.Laws.StableVector.{vector-stable, stable-of}
 use Rattle.matchings.specs.Laws.Numbers.{matching-most}
@@ -25,34 +22,23 @@ use Rattle.repairs.specs.Repair.{answerFor, letterByte}
 use Rattle.repairs.specs.Promise.{PairIn}
 use Rattle.repairs.specs.Laws.RepairBytes.{holds}
 use Rattle.repairs.specs.Laws.AnswerBytes.{alone-answer}
-use Rattle.sheets.specs.Decimal.{decimal}
+use Rattle.repairs.specs.Laws.GainBytes.{rank-small}
 use Rattle.sheets.specs.Joined.{joined, joined-most, joined-both}
 use Rattle.sheets.specs.Line.{studentLine}
 use Rattle.sheets.specs.Longest.{digits, moveMost, movesLongest}
 use Rattle.sheets.specs.Sheet.{distanceOf, topOf, answers, afterCheck}
 use Rattle.sheets.specs.Moves.{gainField, moveFrom, movesTo, movesUnder, moves, movesFor}
-use Rattle.sheet_text.specs.Laws.Decimal.{decimal-short}
-use Rattle.sheet_text.specs.Laws.Lines.{refusal-short}
+use Rattle.sheets.specs.MovesLaws.{moved-placed, gain-above, gain-below}
+use Rattle.sheet_text.specs.Laws.Lines.{few-digits, refusal-short}
 use Rattle.sheet_answers.specs.Laws.Short.{answers-short}
-use Rattle.move_text.specs.Laws.Lengths.{move-length, gain-above, gain-below}
+use Rattle.move_text.specs.Laws.Lengths.{move-length}
 
--- a number up to the largest n has at most the digits of that
-few-digits : {x : ℕ} → x ≤ largest → length (decimal x) ≤ digits
-few-digits {x} h = decimal-short digits x (omega arith) (omega arith)
-
--- so the places gained have at most one byte more
+-- The places gained have at most one byte more
 gain-short : {p q : ℕ} → p ≤ largest → q ≤ largest → length (gainField p q) ≤ digits + 1
 gain-short {p} {q} h k =
     split p q
     (λ l. omega (arith, ap length (gain-below {p = p} {q = q} l), few-digits {x = q - p} (omega arith)))
     (λ l. omega (arith, ap length (gain-above {p = p} {q = q} l), few-digits {x = p - q} (omega arith)))
-
--- the place of a student's mentor is on his list, which has n entries at most
-rank-most : {b m : List ℕ} → MatchingIn b m → {i : ℕ} → i < people b → womanOf m i < people b → manRank b i (womanOf m i) ≤ largest
-unfolding market
-rank-most {b} A {i} u l =
-    let k : manLength b i ≤ people b = allowed-most b (A .formed .lengths {k = 0 + i} (omega arith)) in
-    omega (arith, A .listed i u l .lists, A .formed .few)
 
 module _ {b m r : List ℕ} (S : StableIn b m) (R : StableIn b r) where
   -- the line of a student who is moved is no longer than the longest
@@ -61,21 +47,19 @@ module _ {b m r : List ℕ} (S : StableIn b m) (R : StableIn b r) where
       let few = S .matching .formed .few in
       same (womanOf r i) (womanOf m i)
       (λ e. rw (eq-eqb (womanOf r i) (womanOf m i) e) (omega arith))
-      (λ ne. rw (ne-eqb (womanOf r i) (womanOf m i) ne)
-      (split (people b) (womanOf m i)
-      (λ l. let z = alone-entry (S .matching) u l in absurd (ne (alone-too S R u z ∙ sym z)))
-      (λ l.
-      let k = placed-too S R u l in
+      (λ ne.
+      let (l, k) = moved-placed S R u ne in
       let p = manRank b i (womanOf m i) in
       let q = manRank b i (womanOf r i) in
-      omega (
+      rw (ne-eqb (womanOf r i) (womanOf m i) ne)
+      (omega (
         arith,
         move-length i (womanOf m i) (womanOf r i) (gainField p q),
         few-digits {x = i} (omega arith),
         few-digits {x = womanOf m i} (omega arith),
         few-digits {x = womanOf r i} (omega arith),
-        gain-short {p = p} {q = q} (rank-most (S .matching) u l) (rank-most (R .matching) u k),
-      ))))
+        gain-short {p = p} {q = q} (omega (arith, rank-small (S .matching) u l)) (omega (arith, rank-small (R .matching) u k)),
+      )))
 
   -- nor are all lines together
   to-short : length (movesTo b m r) ≤ moveMost * people b

@@ -18,7 +18,7 @@ use Rattle.sheets.specs.Moves.{moves}
 use Rattle.sheets.specs.Reply.{replyWith, bufferWith}
 use Rattle.sheet_text.specs.Put.{Put}
 use Rattle.sheet_text.specs.Laws.Put.{put-on}
-use Rattle.move_lines.specs.Over.{movesWith, Written}
+use Rattle.move_lines.specs.Over.{movesWith, TextWritten}
 
 -- two parts put one after the other at the front are the whole, and its length is given
 pub parts-put :
@@ -35,7 +35,7 @@ parts-put {top} {rest} {out} {len = len} e h P Q =
 -- what is promised of a text holds of the same text by another name
 pub written-as :
     {b m k text out now : List ℕ} {r : Counted} → text ≡ movesWith b m k →
-    (countOutcome r ≡ replyWith text (length out)) × (now ≡ bufferWith text out) → Written b m k out now r
+    (countOutcome r ≡ replyWith text (length out)) × (now ≡ bufferWith text out) → TextWritten b m k out now r
 written-as {out = out} e W =
     record {
       reply = W .0 ∙ ap (λ (t : List ℕ). replyWith t (length out)) e;

@@ -8,19 +8,19 @@ use lib.ListN.{length}
 use Rattle.sheets.specs.Joined.{joined, joined-longer}
 
 -- After k of n texts of at most `most` bytes: they have `len` bytes
-pub record Counted (t : ℕ → List ℕ) (most n k len : ℕ) : Type 0 where
+pub record BytesCounted (t : ℕ → List ℕ) (most n k len : ℕ) : Type 0 where
   pub within : k ≤ n
   pub bytes : len ≡ length (joined t k)
   pub few : len ≤ most * k
 
 module _ {t : ℕ → List ℕ} {most n : ℕ} where
   -- it starts
-  pub counted-start : Counted t most n 0 0
+  pub counted-start : BytesCounted t most n 0 0
   unfolding joined
   counted-start = record { within = omega arith; bytes = refl; few = omega arith }
 
   -- one text more
-  pub counted-on : {k len x : ℕ} → Counted t most n k len → k < n → x ≡ length (t k) → x ≤ most → Counted t most n (k + 1) (len + x)
+  pub counted-on : {k len x : ℕ} → BytesCounted t most n k len → k < n → x ≡ length (t k) → x ≤ most → BytesCounted t most n (k + 1) (len + x)
   counted-on {k} C h e l =
       record {
         within = omega arith;
@@ -29,5 +29,5 @@ module _ {t : ℕ → List ℕ} {most n : ℕ} where
       }
 
   -- and it ends
-  pub counted-end : {k len : ℕ} → Counted t most n k len → n ≤ k → (len ≡ length (joined t n)) × (len ≤ most * n)
+  pub counted-end : {k len : ℕ} → BytesCounted t most n k len → n ≤ k → (len ≡ length (joined t n)) × (len ≤ most * n)
   counted-end {k} C h = let e : n ≡ k = omega (arith, C .within) in rw e (C .bytes, C .few)

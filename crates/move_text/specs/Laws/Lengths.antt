@@ -4,7 +4,7 @@ use mathlib.Core.Path.{_≡_, refl, ap}
 use mathlib.Core.List.{List, [], _∷_, _++_, append-assoc}
 use native.Mathlib.Omega.{arith}
 use lib.ListN.{length, length-append}
-use borrow.Author.Tests.{lt-ltb, le-ltb, eq-eqb, ne-eqb}
+use borrow.Author.Tests.{eq-eqb, ne-eqb}
 use Rattle.tables.specs.Lists.{atIn}
 use Rattle.sheets.specs.Decimal.{decimal}
 use Rattle.sheets.specs.Line.{space, lineFeed, line}
@@ -29,13 +29,6 @@ four-digits {x} h k = omega (arith, hundreds-longer x (omega arith), two-digits 
 
 pub five-digits : {x : ℕ} → 10000 ≤ x → x < 100000 → 5 ≡ length (decimal x)
 five-digits {x} h k = omega (arith, hundreds-longer x (omega arith), three-digits {x = x / 100} (omega arith) (omega arith))
-
--- the places gained are a number with its sign
-pub gain-above : {p q : ℕ} → q < p → gainField p q ≡ 43 ∷ decimal (p - q)
-gain-above {p} {q} h = rw (lt-ltb q p h)
-
-pub gain-below : {p q : ℕ} → p ≤ q → gainField p q ≡ 45 ∷ decimal (q - p)
-gain-below {p} {q} h = rw (le-ltb q p h)
 
 -- the line of a man who is moved
 pub move-length : (man old new : ℕ) (gain : List ℕ) →

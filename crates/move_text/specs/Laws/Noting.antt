@@ -8,7 +8,7 @@ use lib.Seq.{getD-set-same, getD-set-other}
 use Rattle.laws.specs.Choice.{split, same}
 use Rattle.laws.specs.Table.{cell}
 use Rattle.laws.specs.Values.{vec}
-use Rattle.move_text.specs.Text.{movedLines, uncounted, RowsCounted, Noted, MenCounted}
+use Rattle.move_text.specs.Text.{movedLines, uncounted, RowsCounted, LengthNoted, MenCounted}
 
 -- at first none is
 pub none-counted : (n : ℕ) (mlists : List ℕ) (p : ℕ → ℕ) (rows : List ℕ) {m : ℕ} → n ≤ m → RowsCounted n mlists p rows (replicate m uncounted)
@@ -22,11 +22,11 @@ none-counted n mlists p rows {m} h =
 
 module _ {n : ℕ} {mlists : List ℕ} {p : ℕ → ℕ} {rows lengths : List ℕ} (C : RowsCounted n mlists p rows lengths) {row r : ℕ} (u : row < n) where
   -- a length that is known is not noted again
-  pub noted-known : r ≡ vec lengths row → Noted (vec lengths) (vec lengths) row r
+  pub noted-known : r ≡ vec lengths row → LengthNoted (vec lengths) (vec lengths) row r
   noted-known e = record { here = sym e; others = λ x ne. refl }
 
   -- one that is counted is
-  pub noted-new : Noted (vec lengths) (vec (set lengths row r)) row r
+  pub noted-new : LengthNoted (vec lengths) (vec (set lengths row r)) row r
   noted-new =
       record {
         here = getD-set-same lengths row r 0 (omega (arith, C .long));
@@ -46,7 +46,7 @@ module _ {n : ℕ} {mlists : List ℕ} {p : ℕ → ℕ} {rows lengths : List �
 -- One man more whose row is counted
 module _ (n : ℕ) (mlists : List ℕ) (p first : ℕ → ℕ) (rows : List ℕ) {before after : ℕ → ℕ} {k row r : ℕ} where
   pub men-counted-on :
-      MenCounted n mlists p first rows before k → Noted before after row r → row ≡ first k →
+      MenCounted n mlists p first rows before k → LengthNoted before after row r → row ≡ first k →
       r ≡ length (movedLines n mlists p (cell rows n row)) → MenCounted n mlists p first rows after (k + 1)
   men-counted-on M N e q s h =
       same (first s) row

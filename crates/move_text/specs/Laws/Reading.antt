@@ -7,7 +7,7 @@ use lib.ListN.{length, length-append}
 use Rattle.laws.specs.Table.{cell, row-end}
 use Rattle.laws.specs.Values.{vec}
 use Rattle.sheets.specs.Line.{studentLine}
-use Rattle.move_text.specs.Text.{movedLine, movedLines, block, Readable, PlacesRead, RowRead, RowsRead, MenCounted}
+use Rattle.move_text.specs.Text.{movedLine, movedLines, lineAndMoved, Readable, PlacesRead, RowRead, RowsRead, MenCounted}
 
 module _ {n : ℕ} {mlists men rows : List ℕ} {row : ℕ} (P : PlacesRead n mlists men) (R : RowRead n rows row) {i : ℕ} (u : i < n) {p q : ℕ} (e : p ≡ vec men i) (f : q ≡ cell rows n row i) where
   -- both places of man i can be read
@@ -39,15 +39,15 @@ pub row-counted :
     lengths row ≡ length (movedLines n mlists p (cell rows n row))
 row-counted n mlists p first rows lengths {s = s} M u f = rw f (M s u)
 
--- The block of man k: his line, and the lines under it, by his index s and the row that is read for him
+-- The lineAndMoved of man k: his line, and the lines under it, by his index s and the row that is read for him
 module _ (n : ℕ) (w l d : ℕ → ℕ) (mlists : List ℕ) (p first : ℕ → ℕ) (rows : List ℕ) {k s row : ℕ} (e : s ≡ k) (f : row ≡ first s) where
-  pub block-is :
-      studentLine k (w k) (l s) (d s) ++ movedLines n mlists p (cell rows n row) ≡ block n w l d mlists p first rows k
-  block-is = rw (f, e) refl
+  pub parts-are :
+      studentLine k (w k) (l s) (d s) ++ movedLines n mlists p (cell rows n row) ≡ lineAndMoved n w l d mlists p first rows k
+  parts-are = rw (f, e) refl
 
   -- its bytes are those of the two parts
-  pub block-length :
-      length (block n w l d mlists p first rows k)
+  pub parts-length :
+      length (lineAndMoved n w l d mlists p first rows k)
       ≡ length (studentLine k (w k) (l s) (d s)) + length (movedLines n mlists p (cell rows n row))
-  block-length =
-      sym (ap length block-is) ∙ length-append (studentLine k (w k) (l s) (d s)) (movedLines n mlists p (cell rows n row))
+  parts-length =
+      sym (ap length parts-are) ∙ length-append (studentLine k (w k) (l s) (d s)) (movedLines n mlists p (cell rows n row))

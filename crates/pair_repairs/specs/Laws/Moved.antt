@@ -1,13 +1,10 @@
 -- What the answer for each proposer of a stable vector is, also for one who is not placed: the vector after it is
--- stable, and whoever it moves is placed before and after. Assumes nothing.
+-- stable. Assumes nothing.
 use Prim.Native.Nat.{ℕ, _<_}
-use mathlib.Core.Path.{_≡_}
-use native.Mathlib.Omega.{arith}
 use Rattle.laws.specs.Choice.{split}
 use Rattle.stable_theory.specs.Stable.Market.{Market, Proper}
 use Rattle.stable_theory.specs.Stable.Vector.{Stable}
 use Rattle.stable_theory.specs.Stable.Holding.{hold-at}
-use Rattle.stable_theory.specs.Stable.Lattice.{placed-too}
 use Rattle.stable_theory.specs.Repairs.Repair.{IsDown, IsUp}
 use Rattle.stable_theory.specs.Repairs.Answer.{Answer, U, D, F, answerOf, Answers, nearer-up, nearer-down, neither}
 use Rattle.stable_theory.specs.Repairs.AnswerLaws.{answer-of}
@@ -32,10 +29,6 @@ repair-stable P s (U v) X = X .parts .stable
 repair-stable P s (D v) X = X .parts .stable
 repair-stable P s F X = P
 
--- Of two stable vectors: a proposer who is placed in the one is placed in the other
-placed-both : {I : Market} → Proper I → {p q : ℕ → ℕ} → Stable I p → Stable I q → {i : ℕ} → i < I .proposers .size → p i < I .proposers .len i → q i < I .proposers .len i
-placed-both M {p} P Q u l = let h = placed-too M P Q (hold-at M p u l) in omega (arith, h .1 .is, h .1 .pair .lists)
-
 -- Proposer s of a stable vector, who may be placed or not
 module _ {I : Market} (M : Proper I) (c : ℕ → ℕ) {p : ℕ → ℕ} (P : Stable I p) {s : ℕ} (u : s < I .proposers .size) where
   -- the answer that is worked out has a repair of his pair, if it has a vector
@@ -48,15 +41,3 @@ module _ {I : Market} (M : Proper I) (c : ℕ → ℕ) {p : ℕ → ℕ} (P : St
   -- the vector after it is stable
   pub after-stable : Stable I (vectorAfter p (answerOf I c p s))
   after-stable = repair-stable P s (answerOf I c p s) answer-repair
-
-  -- and whoever it moves is placed before and after
-  pub moved-placed :
-      {i : ℕ} → i < I .proposers .size → (vectorAfter p (answerOf I c p s) i ≡ p i → ⊥) →
-      (p i < I .proposers .len i) × (vectorAfter p (answerOf I c p s) i < I .proposers .len i)
-  moved-placed {i} v ne =
-      let q = vectorAfter p (answerOf I c p s) in
-      split (I .proposers .len i) (p i)
-      (λ l. split (I .proposers .len i) (q i)
-      (λ k. absurd (ne (omega (arith, P .settled .within .bound v, after-stable .settled .within .bound v))))
-      (λ k. absurd (omega (arith, placed-both M after-stable P v k))))
-      (λ l. (l, placed-both M P after-stable v l))

@@ -36,6 +36,10 @@ module _ {b m k : List ℕ} (A : MatchingIn b m) (B : MatchingIn b k) where
             split (people b) (womanOf m i) (λ l. alone-entry B u (omega arith) ∙ sym (alone-entry A u l)) (λ l. omega arith),
       )
 
+  -- so is one rank, one mentor
+  pub same-rank : {i : ℕ} → i < people b → manRank b i (womanOf k i) ≡ manRank b i (womanOf m i) → womanOf k i ≡ womanOf m i
+  same-rank u e = same-woman u .1 (place-rank B u ∙ e ∙ sym (place-rank A u))
+
   -- so the two tests agree
   pub moved-woman : {i : ℕ} → i < people b → not (eqb (womanOf k i) (womanOf m i)) ≡ moved (vectorOf b m) (vectorOf b k) i
   unfolding moved

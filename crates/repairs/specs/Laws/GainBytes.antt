@@ -17,15 +17,15 @@ use Rattle.stable_theory.specs.Repairs.Answer.{Answer, Answers, nearer-up, near
 use Rattle.matchings.specs.BookMarket.{market}
 use Rattle.matchings.specs.Laws.Blocking.{alone-entry}
 use Rattle.matchings.specs.Matching.{manRank, manLength, vectorOf, MatchingIn, StableIn, womanOf}
-use Rattle.matchings.specs.Laws.StableVector.{place-rank, stable-of}
+use Rattle.matchings.specs.Laws.StableVector.{stable-of}
 use Rattle.matchings.specs.Laws.SamePlaced.{placed-too, alone-too}
 use Rattle.repairs.specs.Repair.{entriesFor, matchingFor, gainsFor}
-use Rattle.repairs.specs.Laws.Bytes.{same-woman}
+use Rattle.repairs.specs.Laws.Bytes.{same-rank}
 use Rattle.repairs.specs.Laws.AnswerBytes.{written-bytes, reply-fixed}
 use Rattle.repairs.specs.Promise.{PairIn, InEvery, Gained}
 
 -- the place of a mentor is on the list, which has n entries at most
-rank-small : {b m : List ℕ} → MatchingIn b m → {i : ℕ} → i < people b → womanOf m i < people b → manRank b i (womanOf m i) ≤ largest - 1
+pub rank-small : {b m : List ℕ} → MatchingIn b m → {i : ℕ} → i < people b → womanOf m i < people b → manRank b i (womanOf m i) ≤ largest - 1
 unfolding market
 rank-small {b} A {i} u l =
     let k : manLength b i ≤ people b = allowed-most b (A .formed .lengths {k = 0 + i} (omega arith)) in
@@ -35,7 +35,7 @@ rank-small {b} A {i} u l =
 gain-zero : {b m r : List ℕ} → MatchingIn b m → MatchingIn b r → {i : ℕ} → i < people b → less (manRank b i (womanOf m i)) (manRank b i (womanOf r i)) ≡ pos 0 ↔ womanOf r i ≡ womanOf m i
 gain-zero {b} {m} {r} A B {i} u =
     let Z = less-zero (manRank b i (womanOf m i)) (manRank b i (womanOf r i)) in
-    (λ e. same-woman A B u .1 (place-rank B u ∙ sym (Z .0 e) ∙ sym (place-rank A u)), λ e. Z .1 (ap (manRank b i) (sym e)))
+    (λ e. same-rank A B u (sym (Z .0 e)), λ e. Z .1 (ap (manRank b i) (sym e)))
 
 module _ {b m : List ℕ} (S : StableIn b m) where
   -- entries that are old place less new are the places gained, where r is stable: who is alone in m is alone in r

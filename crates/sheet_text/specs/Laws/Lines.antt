@@ -51,7 +51,7 @@ module _ (x : ℕ) {p : Partner} (H : PartnerIs x p) (s l d : ℕ) where
   without-line e = let P : PartnerIs x Alone = rw e at H in alone-line s l d P
 
 -- the digits of a number up to the largest n, and up to its square
-few-digits : {x : ℕ} → x ≤ largest → length (decimal x) ≤ digits
+pub few-digits : {x : ℕ} → x ≤ largest → length (decimal x) ≤ digits
 few-digits {x} h = decimal-short digits x (omega arith) (omega arith)
 
 square-digits : {x : ℕ} → x ≤ largest * largest → length (decimal x) ≤ 2 * digits

@@ -14,7 +14,7 @@ use Rattle.repairs.specs.Grade.{gradeAnswer}
 use Rattle.sheets.specs.Line.{topLine}
 use Rattle.sheet_text.specs.Laws.Put.{put-long}
 use Rattle.sheet_lines.specs.Laws.Reply.{sheet-refused}
-use Rattle.move_text.specs.Text.{blocks}
+use Rattle.move_text.specs.Text.{linesAndMoved}
 use Rattle.move_text.specs.Laws.Noting.{none-counted}
 use Rattle.move_lines.specs.Laws.Written.{parts-put}
 use borrow.Author.Needs.{needs}
@@ -28,7 +28,7 @@ top s = let a = s .args in topLine (a .n) (a .rotations) (a .fixed) (gradeAnswer
 abbrev lines : tie.Start → List ℕ
 lines s =
     let a = s .args in
-    blocks (a .n) (entryIn (now (a .his))) (vec (now (a .letters))) (vec (now (a .distances))) (now (a .mlists)) (vec (now (a .men))) (vec (now (a .firsts))) (now (a .rows))
+    linesAndMoved (a .n) (entryIn (now (a .his))) (vec (now (a .letters))) (vec (now (a .distances))) (now (a .mlists)) (vec (now (a .men))) (vec (now (a .firsts))) (now (a .rows))
 
 abbrev start : tie.After-text-length → tie.Start
 start c = search

@@ -6,7 +6,7 @@ use native.Mathlib.Omega.{arith}
 use lib.ListN.{length}
 use Rattle.sheets.specs.Line.{lineFeed}
 use Rattle.sheet_text.specs.Laws.Put.{put-on, put-as}
-use Rattle.move_text.specs.Laws.Lengths.{gain-above, gain-below}
+use Rattle.sheets.specs.MovesLaws.{gain-above, gain-below}
 use borrow.Author.Needs.{needs}
 use Rattle.move_text.proofs.moved.put_gain.Statement.{statement}
 use Rattle.move_text.proofs.moved.put_gain.Tie as tie

@@ -8,12 +8,12 @@ use Rattle.laws.specs.Table.{cell}
 use Rattle.laws.specs.Values.{vec}
 use Rattle.move_text.specs.Text.{movedLine}
 use Rattle.move_text.specs.Laws.Reading.{readable, next-line}
-use Rattle.move_text.specs.Laws.Counting.{Counted, counted-start, counted-on, counted-end}
+use Rattle.move_text.specs.Laws.Counting.{BytesCounted, counted-start, counted-on, counted-end}
 use Rattle.move_text.proofs.moves.moves_length.Statement.{statement}
 use Rattle.move_text.proofs.moves.moves_length.Tie as tie
 
 abbrev Inv-loop : tie.InvT-loop
-Inv-loop n mlists men rows row len₀ i₀ len i = Counted (λ j. movedLine n mlists j (vec men j) (cell rows n row j)) 26 n i len
+Inv-loop n mlists men rows row len₀ i₀ len i = BytesCounted (λ j. movedLine n mlists j (vec men j) (cell rows n row j)) 26 n i len
 
 abbrev μ-loop : tie.MeasureT-loop
 μ-loop n mlists men rows row len₀ i₀ len i = n - i

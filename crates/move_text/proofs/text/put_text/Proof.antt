@@ -11,15 +11,15 @@ use Rattle.format.specs.Format.{largest, entryIn}
 use Rattle.sheets.specs.Line.{studentLine}
 use Rattle.sheet_text.specs.Laws.Put.{put-on, put-long}
 use Rattle.sheet_text.specs.Laws.Joined.{JoinedPut, joined-start, joined-room, joined-on, joined-end}
-use Rattle.move_text.specs.Text.{movedLines, block, RowsStand}
-use Rattle.move_text.specs.Laws.Reading.{row-read, row-low, row-counted, block-is, block-length}
+use Rattle.move_text.specs.Text.{movedLines, lineAndMoved, RowsStand}
+use Rattle.move_text.specs.Laws.Reading.{row-read, row-low, row-counted, parts-are, parts-length}
 use Rattle.move_text.specs.Laws.Standing.{stand-on, none-stand}
 use Rattle.move_text.proofs.text.put_text.Statement.{statement}
 use Rattle.move_text.proofs.text.put_text.Tie as tie
 
 abbrev Inv-loop : tie.InvT-loop
 Inv-loop out₀ at n his letters distances mlists men firsts rows lengths starts₀ end₀ man₀ out starts end man =
-    JoinedPut (block n (entryIn his) (vec letters) (vec distances) mlists (vec men) (vec firsts) rows) n out₀ at (man .0) out end
+    JoinedPut (lineAndMoved n (entryIn his) (vec letters) (vec distances) mlists (vec men) (vec firsts) rows) n out₀ at (man .0) out end
     × RowsStand n mlists (vec men) rows starts out end
     × (length starts ≡ largest)
 
@@ -56,7 +56,7 @@ fits : (c : tie.After-wide2 Inv-loop μ-loop) →
 fits c row q =
     let l = at-loop (in-loop c) in
     let a = start l .args in
-    let b = block-length (a .n) (entryIn (a .his .now)) (vec (a .letters .now)) (vec (a .distances .now)) (a .mlists .now) (vec (a .men .now)) (vec (a .firsts .now)) (a .rows .now) {row = row} (c .wide2 .ensures .0) q in
+    let b = parts-length (a .n) (entryIn (a .his .now)) (vec (a .letters .now)) (vec (a .distances .now)) (a .mlists .now) (vec (a .men .now)) (vec (a .firsts .now)) (a .rows .now) {row = row} (c .wide2 .ensures .0) q in
     omega (arith, joined-room (start l .pre .1 .1 .1) (l .loop .inv .0) refl (man-lt (in-loop c)))
 
 put-line-requires : tie.Need-put-line-requires Inv-loop μ-loop
@@ -110,7 +110,7 @@ loop-again c =
     let a = start l .args in
     let E = m .put-row .ensures in (
       joined-on (start l .pre .1 .1 .1) (l .loop .inv .0)
-          (block-is (a .n) (entryIn (a .his .now)) (vec (a .letters .now)) (vec (a .distances .now)) (a .mlists .now) (vec (a .men .now)) (vec (a .firsts .now)) (a .rows .now) (i .wide2 .ensures .0) (r .wide3 .ensures .0))
+          (parts-are (a .n) (entryIn (a .his .now)) (vec (a .letters .now)) (vec (a .distances .now)) (a .mlists .now) (vec (a .men .now)) (vec (a .firsts .now)) (a .rows .now) (i .wide2 .ensures .0) (r .wide3 .ensures .0))
           (man-lt t) (put-on (p .put-line .ensures) (end-within i) (E .0)) (c .next-man .ensures),
       E .1,
       omega (arith, z .starts2 .given, l .loop .inv .2),

@@ -7,16 +7,16 @@ use native.Mathlib.Omega.{arith}
 use lib.ListN.{length}
 use Rattle.laws.specs.Values.{vec}
 use Rattle.format.specs.Format.{entryIn}
-use Rattle.move_text.specs.Text.{block, RowsCounted, MenCounted}
-use Rattle.move_text.specs.Laws.Reading.{row-read, row-low, block-length}
+use Rattle.move_text.specs.Text.{lineAndMoved, RowsCounted, MenCounted}
+use Rattle.move_text.specs.Laws.Reading.{row-read, row-low, parts-length}
 use Rattle.move_text.specs.Laws.Noting.{men-counted-on}
-use Rattle.move_text.specs.Laws.Counting.{Counted, counted-start, counted-on, counted-end}
+use Rattle.move_text.specs.Laws.Counting.{BytesCounted, counted-start, counted-on, counted-end}
 use Rattle.move_text.proofs.text.text_length.Statement.{statement}
 use Rattle.move_text.proofs.text.text_length.Tie as tie
 
 abbrev Inv-loop : tie.InvT-loop
 Inv-loop n his distances mlists men firsts rows lengths₀ len₀ man₀ lengths len man =
-    ((l : ℕ → ℕ) → Counted (block n (entryIn his) l (vec distances) mlists (vec men) (vec firsts) rows) 1684 n (man .0) len)
+    ((l : ℕ → ℕ) → BytesCounted (lineAndMoved n (entryIn his) l (vec distances) mlists (vec men) (vec firsts) rows) 1684 n (man .0) len)
     × RowsCounted n mlists (vec men) rows lengths
     × MenCounted n mlists (vec men) (vec firsts) rows (vec lengths) (man .0)
     × (length lengths ≡ length lengths₀)
@@ -89,7 +89,7 @@ loop-again c =
             arith,
             g .line-length .ensures .0 (letters (i .wide2 .result)),
             m .row-length .ensures .0 .0,
-            block-length (a .n) (entryIn (a .his .now)) letters (vec (a .distances .now)) (a .mlists .now) (vec (a .men .now)) (vec (a .firsts .now)) (a .rows .now) (i .wide2 .ensures .0) (r .wide3 .ensures .0),
+            parts-length (a .n) (entryIn (a .his .now)) letters (vec (a .distances .now)) (a .mlists .now) (vec (a .men .now)) (vec (a .firsts .now)) (a .rows .now) (i .wide2 .ensures .0) (r .wide3 .ensures .0),
           ))
           (omega (arith, g .line-length .ensures .1, m .row-length .ensures .0 .1, start l .pre .1 .0 .0 .few)),
       E .1 .0,

@@ -12,17 +12,17 @@ use Rattle.sheets.specs.Joined.{joined, joined-same}
 
 -- The text `whole` is that of k numbers, who 0, who 1 and so on, one after the other: they rise, and are exactly the
 -- numbers below n that are not left out
-pub record Listed (left : ℕ → Bool) (text : ℕ → List ℕ) (n : ℕ) (whole : List ℕ) (k : ℕ) : Type 0 where
+pub record RisingTexts (left : ℕ → Bool) (text : ℕ → List ℕ) (n : ℕ) (whole : List ℕ) (k : ℕ) : Type 0 where
   pub who : ℕ → ℕ
   pub lines : whole ≡ joined (λ j. text (who j)) k
   pub rising : {i j : ℕ} → i < j → j < k → who i < who j
   pub each : {j : ℕ} → j < k → (who j < n) × (left (who j) ≡ false)
   pub all : {i : ℕ} → i < n → left i ≡ false → (j : ℕ) × (j < k) × (who j ≡ i)
 
-module _ {left : ℕ → Bool} {text : ℕ → List ℕ} {n : ℕ} {whole : List ℕ} {k : ℕ} (L : Listed left text n whole k) where
+module _ {left : ℕ → Bool} {text : ℕ → List ℕ} {n : ℕ} {whole : List ℕ} {k : ℕ} (L : RisingTexts left text n whole k) where
   -- one number more, which is left out
-  listed-skip : left n ≡ true → Listed left text (suc n) (whole ++ []) k
-  listed-skip e =
+  texts-skip : left n ≡ true → RisingTexts left text (suc n) (whole ++ []) k
+  texts-skip e =
       record {
         who = L .who;
         lines = append-nil whole ∙ L .lines;
@@ -42,9 +42,9 @@ module _ {left : ℕ → Bool} {text : ℕ → List ℕ} {n : ℕ} {whole : List
   next-before : {j : ℕ} → j < k → next j ≡ L .who j
   next-before {j} h = rw (ne-eqb j k (λ e. omega arith))
 
-  listed-on : left n ≡ false → Listed left text (suc n) (whole ++ text n) (suc k)
+  texts-on : left n ≡ false → RisingTexts left text (suc n) (whole ++ text n) (suc k)
   unfolding joined
-  listed-on e =
+  texts-on e =
       record {
         who = next;
         lines = ap₂ (λ (a b : List ℕ). a ++ b) (L .lines ∙ joined-same k (λ j h. ap text (sym (next-before h)))) (ap text (sym next-last));
@@ -63,14 +63,14 @@ module _ {left : ℕ → Bool} {text : ℕ → List ℕ} {n : ℕ} {whole : List
       }
 
 -- The texts of the numbers below n, none for those that are left out, are such a list; it has as many as are not
-pub listed : (left : ℕ → Bool) (text : ℕ → List ℕ) (n : ℕ) →
-    Listed left text n (joined (λ i. pick (left i) [] (text i)) n) (count n (λ i. not (left i)))
+pub rising-texts : (left : ℕ → Bool) (text : ℕ → List ℕ) (n : ℕ) →
+    RisingTexts left text n (joined (λ i. pick (left i) [] (text i)) n) (count n (λ i. not (left i)))
 unfolding joined
-listed left text zero =
+rising-texts left text zero =
     record { who = λ j. j; lines = refl; rising = λ l h. absurd (omega arith); each = λ h. absurd (omega arith); all = λ h f. absurd (omega arith) }
-listed left text (suc n) =
-    let L = listed left text n in
+rising-texts left text (suc n) =
+    let L = rising-texts left text n in
     let k = count n (λ i. not (left i)) in
     tested (left n)
-    (λ e. let q : k + 0 ≡ k = omega arith in rw (e, q) (listed-skip L e))
-    (λ e. let q : k + 1 ≡ suc k = omega arith in rw (e, q) (listed-on L e))
+    (λ e. let q : k + 0 ≡ k = omega arith in rw (e, q) (texts-skip L e))
+    (λ e. let q : k + 1 ≡ suc k = omega arith in rw (e, q) (texts-on L e))
