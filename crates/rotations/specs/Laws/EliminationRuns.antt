@@ -43,6 +43,7 @@ one-among (σ ∷ l) o = one-cases o (λ e. here (same-cycle e)) (λ p. there (o
 
 -- and back
 pub among_one : {ρ : Pairs} (l : List Pairs) → Among (cycle_of ρ) (map cycle_of l) → OneOf ρ l
+among_one [] a = elim a [ ]
 among_one {ρ} (σ ∷ l) (here s) = one-here (cycle-same σ ρ s)
 among_one (σ ∷ l) (there a) = one-there (among_one l a)
 

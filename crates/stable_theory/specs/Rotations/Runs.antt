@@ -66,6 +66,7 @@ module _ {I : Market} (M : Proper I) where
 
   -- where a rotation was eliminated the run can be cut
   pub cut : {p : ℕ → ℕ} {l : List Rotation} {ρ : Rotation} → Run I p l → Among ρ l → Cut I p ρ
+  cut (start _) a = elim a [ ]
   cut (then {p = p} {l = l} r X e) (here s) = record {
     vector = p;
     so_far = l;
@@ -113,12 +114,14 @@ module _ {I : Market} (M : Proper I) where
 
     -- and nothing else
     pub run_only : {p : ℕ → ℕ} {l : List Rotation} → Run I p l → {k : ℕ} → k < z → Among (ρ k) l → passed I (ρ k) p ≡ true
+    run_only (start _) h a = elim a [ ]
     run_only (then r X e) {k} h (here s) =
         passed-agree (C.exposed h) e ∙ (sym (passed-same I X.some s _) ∙ eliminated-passed M (run-stable r) X)
     run_only (then r X e) {k} h (there a) = passed_later (C.exposed h) (before-then X e) (run_only r h a)
 
     -- whatever it has eliminated has a number
     pub run-numbered : {p : ℕ → ℕ} {l : List Rotation} {σ : Rotation} → Run I p l → Among σ l → (k : ℕ) × (k < z) × SamePairs σ (ρ k)
+    run-numbered (start _) a = elim a [ ]
     run-numbered (then r X e) (here s) = let (k, h, t, f) = numbered M C (run-stable r) X in (k, h, same-trans (same-sym s) t)
     run-numbered (then r X e) (there a) = run-numbered r a
 
