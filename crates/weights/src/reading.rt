@@ -1,6 +1,5 @@
 // The weights of the men read from bytes, one byte a man.
 ghost use Rattle.std.specs.Prelude.{◌≡◌, ◌+◌, ◌≤◌, ◌<◌, min, length, take};
-ghost use Rattle.laws.specs.Moment.{now₀};
 ghost use Rattle.format.specs.Format.{largest};
 ghost use Rattle.weights.specs.Weights.{Light, MenWeighed};
 
@@ -23,15 +22,17 @@ pub fn least(a: usize, b: usize) -> usize
 
 // A weight as a number.
 fn weight(x: u8) -> u32
-    ensures { (result ≡ x) × (result < 256) }
+    ensures answer { result ≡ x }
+    ensures bound { result < 256 }
 {
     x as u32
 }
 
 // The first `count` weights as numbers.
 fn weigh_men(weights: &[u8], count: usize) -> [u32; Instance::LARGEST + 1]
-    requires { (count ≤ length weights.now) × (count ≤ largest + 1) }
-    ensures { MenWeighed (now₀ weights) count result }
+    requires weights_long { count ≤ length weights.now }
+    requires count_bound { count ≤ largest + 1 }
+    ensures { MenWeighed weights.now count result }
 {
     let mut men = [0u32; Instance::LARGEST + 1];
     let mut i = 0;
@@ -45,9 +46,10 @@ fn weigh_men(weights: &[u8], count: usize) -> [u32; Instance::LARGEST + 1]
 // The weights of the students.
 pub fn read_weights(weights: &[u8]) -> Weights
     ensures light { Light (take result.count result.men) }
-    ensures same { take result.count result.men ≡ take (largest + 1) (now₀ weights) }
-    ensures count { (result.count ≡ min (largest + 1) (length (now₀ weights))) ×
-        (result.count ≤ length result.men) × (result.count ≡ length (take result.count result.men)) }
+    ensures same { take result.count result.men ≡ take (largest + 1) weights.now }
+    ensures count { result.count ≡ min (largest + 1) (length weights.now) }
+    ensures count_bound { result.count ≤ length result.men }
+    ensures men_count { result.count ≡ length (take result.count result.men) }
 {
     let count = least(Instance::LARGEST + 1, weights.len());
     let men = weigh_men(weights, count);
