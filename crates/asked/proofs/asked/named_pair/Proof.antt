@@ -2,7 +2,7 @@
 -- number, and a request that has not two entries by 13. Assumes nothing.
 use native.Mathlib.Omega.{arith}
 use borrow.Author.Rules.{rules}
-use Rattle.repairs.specs.Laws.Request.{asked-13}
+use Rattle.repairs.proofs.Laws.Request.{asked-13}
 use Rattle.asked.specs.Laws.Asked.{named-refused}
 use Rattle.asked.proofs.asked.named_pair.Statement.{statement}
 use Rattle.asked.proofs.asked.named_pair.Tie as tie

@@ -5,7 +5,7 @@ use mathlib.Core.Path.{ap}
 use native.Mathlib.Omega.{arith}
 use borrow.Author.Rules.{rules}
 use Rattle.format.specs.Format.{pair_row}
-use Rattle.repairs.specs.Laws.Mentor.{mentor-unknown, mentor-free, mentor-fine}
+use Rattle.repairs.proofs.Laws.Mentor.{mentor-unknown, mentor-free, mentor-fine}
 use Rattle.asked.specs.Laws.Asked.{mentor-refused, mentor-found, holder-with, holder-alone}
 use Rattle.asked.proofs.asked.pair_of.Statement.{statement}
 use Rattle.asked.proofs.asked.pair_of.Tie as tie

@@ -2,7 +2,7 @@
 use mathlib.Core.Path.{sym, ◌∙◌, ap}
 use borrow.Author.Rules.{rules}
 use Rattle.format.specs.Verdict.{verdict_of}
-use Rattle.format.specs.Laws.Verdict.{stays, goes_on}
+use Rattle.format.proofs.Laws.Verdict.{stays, goes_on}
 use Rattle.asked.proofs.rules.check_pair.Statement.{statement}
 use Rattle.asked.proofs.rules.check_pair.Tie as tie
 

@@ -3,7 +3,7 @@
 use mathlib.Core.Path.{sym, ◌∙◌, ap}
 use borrow.Author.Rules.{rules}
 use Rattle.format.specs.Verdict.{verdict_of}
-use Rattle.format.specs.Laws.Verdict.{stays, goes_on}
+use Rattle.format.proofs.Laws.Verdict.{stays, goes_on}
 use Rattle.repairs.specs.Request.{check_pairs}
 use Rattle.asked.proofs.rules.check_pairs.Statement.{statement}
 use Rattle.asked.proofs.rules.check_pairs.Tie as tie

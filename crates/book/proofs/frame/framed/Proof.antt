@@ -7,8 +7,9 @@ use native.Mathlib.Omega.{arith}
 use borrow.Author.Rules.{rules}
 use Rattle.format.specs.Verdict.{fine, verdict_of}
 use Rattle.format.specs.Check.{check_frame, check_book}
-use Rattle.format.specs.Laws.Verdict.{refuses, all-fine}
-use Rattle.format.specs.Laws.Stages.{RightFrame, frame_right}
+use Rattle.format.proofs.Laws.Verdict.{refuses, all-fine}
+use Rattle.format.specs.Laws.Stages.{RightFrame}
+use Rattle.format.proofs.Laws.Stages.{frame_right}
 use Rattle.book.specs.Laws.Entries.{none_below, all-below, some-above}
 use Rattle.book.proofs.frame.framed.Statement.{statement}
 use Rattle.book.proofs.frame.framed.Tie as tie

@@ -5,9 +5,9 @@ use native.Mathlib.Omega.{arith}
 use lib.ListN.{length}
 use borrow.Author.Rules.{rules}
 use Rattle.format.specs.Format.{lists_start, size}
-use Rattle.format.specs.Laws.Bounds.{few-square}
-use Rattle.format.specs.Laws.Directory.{complete-long}
-use Rattle.format.specs.Laws.Frame.{lists-within, lists_at}
+use Rattle.format.proofs.Laws.Bounds.{few-square}
+use Rattle.format.proofs.Laws.Directory.{complete-long}
+use Rattle.format.proofs.Laws.Frame.{lists-within, lists_at}
 use Rattle.book.proofs.frame.lists_from.Statement.{statement}
 use Rattle.book.proofs.frame.lists_from.Tie as tie
 

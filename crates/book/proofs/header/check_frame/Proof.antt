@@ -5,8 +5,8 @@ use Prim.Native.Nat.{ℕ}
 use borrow.Author.Rules.{rules}
 use Rattle.format.specs.Verdict.{fine, verdict_of}
 use Rattle.format.specs.Check.{check_header, check_outline, check_frame, RightOutline}
-use Rattle.format.specs.Laws.Verdict.{stays, goes_on}
-use Rattle.format.specs.Laws.Stages.{header-opened, opened-outline}
+use Rattle.format.proofs.Laws.Verdict.{stays, goes_on}
+use Rattle.format.proofs.Laws.Stages.{header-opened, opened-outline}
 use Rattle.book.proofs.header.check_frame.Statement.{statement}
 use Rattle.book.proofs.header.check_frame.Tie as tie
 

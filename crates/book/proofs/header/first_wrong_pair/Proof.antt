@@ -5,7 +5,7 @@ use mathlib.Core.Path.{◌≡◌, sym}
 use native.Mathlib.Omega.{arith}
 use borrow.Author.Tests.{not-true, not-false}
 use Rattle.format.specs.Format.{partial}
-use Rattle.format.specs.Laws.Directory.{in-directory}
+use Rattle.format.proofs.Laws.Directory.{in-directory}
 use Rattle.book.specs.Laws.Pairs.{PairScan, pair-start, pair-offset, pair-length, pair-on, pair_end}
 use Rattle.book.proofs.header.first_wrong_pair.Statement.{statement}
 use Rattle.book.proofs.header.first_wrong_pair.Tie as tie

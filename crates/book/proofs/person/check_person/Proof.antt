@@ -5,7 +5,7 @@ use native.Mathlib.Omega.{arith}
 use borrow.Author.Tests.{le-leb, lt-leb}
 use borrow.Author.Rules.{rules}
 use Rattle.format.specs.Verdict.{fine, rule, verdict_of}
-use Rattle.format.specs.Laws.Verdict.{stays, goes_on}
+use Rattle.format.proofs.Laws.Verdict.{stays, goes_on}
 use Rattle.format.specs.Format.{people}
 use Rattle.format.specs.Check.{check_book}
 use Rattle.book.proofs.person.check_person.Statement.{statement}

@@ -5,9 +5,9 @@ use native.Mathlib.Omega.{arith}
 use borrow.Author.Rules.{rules}
 use Rattle.format.specs.Verdict.{fine, verdict_of}
 use Rattle.format.specs.Format.{stretch}
-use Rattle.format.specs.Laws.Stages.{fine-passed}
-use Rattle.format.specs.Laws.Directory.{listed}
-use Rattle.format.specs.Laws.Person.{person-book, person-list, no-list, the-list}
+use Rattle.format.proofs.Laws.Stages.{fine-passed}
+use Rattle.format.proofs.Laws.Directory.{listed}
+use Rattle.format.proofs.Laws.Person.{person-book, person-list, no-list, the-list}
 use Rattle.format.specs.Person.{check_person}
 use Rattle.book.proofs.person.person_list.Statement.{statement}
 use Rattle.book.proofs.person.person_list.Tie as tie

@@ -7,8 +7,8 @@ use Rattle.laws.specs.First.{Scan, scan-start, scan-on, some-true, some-false}
 use Rattle.laws.specs.Onto.{Into}
 use Rattle.format.specs.Format.{list_length, entry}
 use Rattle.format.specs.Check.{Listed}
-use Rattle.format.specs.Laws.Bounds.{few-square}
-use Rattle.format.specs.Laws.Directory.{listed, stretch-holds}
+use Rattle.format.proofs.Laws.Bounds.{few-square}
+use Rattle.format.proofs.Laws.Directory.{listed, stretch-holds}
 use Rattle.book.specs.Marked.{lists_unmarked}
 use Rattle.book.specs.Laws.Marked.{cells-within}
 use Rattle.book.specs.Laws.Returned.{right-names, list-unmarked}

@@ -6,8 +6,8 @@ use native.Mathlib.Omega.{arith}
 use Rattle.laws.specs.Onto.{Into}
 use Rattle.format.specs.Format.{list_length, entry}
 use Rattle.format.specs.Check.{Listed}
-use Rattle.format.specs.Laws.Bounds.{few-square}
-use Rattle.format.specs.Laws.Directory.{listed, stretch-holds}
+use Rattle.format.proofs.Laws.Bounds.{few-square}
+use Rattle.format.proofs.Laws.Directory.{listed, stretch-holds}
 use Rattle.book.specs.Marked.{Marked}
 use Rattle.book.specs.Laws.Marked.{cells-within, marked-on}
 use Rattle.book.specs.Laws.Returned.{right-names}

@@ -4,8 +4,9 @@ use mathlib.Core.Path.{◌≡◌, sym, ◌∙◌, ap, subst⁻¹}
 use borrow.Author.Rules.{rules}
 use Rattle.format.specs.Verdict.{fine, verdict_of}
 use Rattle.format.specs.Check.{check_frame, check_entries, check_book}
-use Rattle.format.specs.Laws.Verdict.{stays, goes_on}
-use Rattle.format.specs.Laws.Stages.{RightFrame, frame_right}
+use Rattle.format.proofs.Laws.Verdict.{stays, goes_on}
+use Rattle.format.specs.Laws.Stages.{RightFrame}
+use Rattle.format.proofs.Laws.Stages.{frame_right}
 use Rattle.book.proofs.rules.check.Statement.{statement}
 use Rattle.book.proofs.rules.check.Tie as tie
 

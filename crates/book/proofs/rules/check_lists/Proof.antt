@@ -8,7 +8,7 @@ use Rattle.format.specs.Verdict.{verdict_of}
 use Rattle.format.specs.Format.{entry, list_length, offset}
 use Rattle.format.specs.Lists.{check_lists}
 use Rattle.format.specs.Check.{check_entries, Listed}
-use Rattle.format.specs.Laws.Directory.{listed, stretch-holds}
+use Rattle.format.proofs.Laws.Directory.{listed, stretch-holds}
 use Rattle.rows.specs.Laws.ListRules.{FineLists, lists-start, lists-on, lists-stop, lists-end}
 use Rattle.book.proofs.rules.check_lists.Statement.{statement}
 use Rattle.book.proofs.rules.check_lists.Tie as tie

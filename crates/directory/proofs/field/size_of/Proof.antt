@@ -2,7 +2,7 @@
 use mathlib.Core.Path.{refl}
 use native.Mathlib.Omega.{arith}
 use Rattle.format.specs.Format.{size}
-use Rattle.format.specs.Laws.Bounds.{byte-square}
+use Rattle.format.proofs.Laws.Bounds.{byte-square}
 use Rattle.directory.proofs.field.size_of.Statement.{statement}
 use Rattle.directory.proofs.field.size_of.Tie as tie
 

@@ -1,6 +1,6 @@
 -- `extreme` meets its contract: small tables are lent where they do, and otherwise large ones. Assumes nothing.
 use borrow.Author.Rules.{rules}
-use Rattle.format.specs.Laws.LongTables.{small-tables, large-tables}
+use Rattle.format.proofs.Laws.LongTables.{small-tables, large-tables}
 use Rattle.extremes.proofs.written.extreme.Statement.{statement}
 use Rattle.extremes.proofs.written.extreme.Tie as tie
 

@@ -5,8 +5,8 @@ use native.Mathlib.Omega.{arith}
 use lib.ListN.{length}
 use borrow.Author.Rules.{rules}
 use Rattle.format.specs.Verdict.{fine, verdict_of}
-use Rattle.format.specs.Laws.Outcome.{filled-refused}
-use Rattle.matchings.specs.BookMarket.{market-proper}
+use Rattle.format.proofs.Laws.Outcome.{filled-refused}
+use Rattle.matchings.proofs.BookMarket.{market-proper}
 use Rattle.matchings.specs.Extreme.{check_extreme}
 use Rattle.instances.specs.Laws.BookTables.{usable, usable-alike}
 use Rattle.extremes.specs.Laws.ExtremePlaces.{extreme-alike}

@@ -5,7 +5,7 @@ use native.Mathlib.Omega.{arith}
 use lib.ListN.{take}
 use borrow.Author.Rules.{rules}
 use Rattle.format.specs.Format.{largest}
-use Rattle.repairs.specs.Laws.UnitWeights.{unit-grade}
+use Rattle.repairs.proofs.Laws.UnitWeights.{unit-grade}
 use Rattle.weights.specs.Laws.Ones.{ones, ones-length, ones-light-given, ones-unit}
 use Rattle.grade.proofs.calls.grade.Statement.{statement}
 use Rattle.grade.proofs.calls.grade.Tie as tie

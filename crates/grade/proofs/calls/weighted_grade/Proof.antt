@@ -5,7 +5,7 @@ use mathlib.Core.Path.{◌∙◌, ap}
 use mathlib.Core.List.{List}
 use borrow.Author.Rules.{rules}
 use Rattle.repairs.specs.Grade.{weighted_grade}
-use Rattle.repairs.specs.Laws.UnitWeights.{cut-grade}
+use Rattle.repairs.proofs.Laws.UnitWeights.{cut-grade}
 use Rattle.grade.proofs.calls.weighted_grade.Statement.{statement}
 use Rattle.grade.proofs.calls.weighted_grade.Tie as tie
 

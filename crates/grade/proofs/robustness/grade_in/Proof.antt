@@ -4,7 +4,7 @@ use mathlib.Core.Path.{refl, sym, ◌∙◌, ap}
 use native.Mathlib.Omega.{arith}
 use borrow.Author.Rules.{rules}
 use Rattle.format.specs.Outcome.{after}
-use Rattle.format.specs.Laws.Outcome.{after-refused, after-fine}
+use Rattle.format.proofs.Laws.Outcome.{after-refused, after-fine}
 use Rattle.format.specs.Record.{Record, lent}
 use Rattle.format.specs.Verdict.{Verdict, verdict_of}
 use Rattle.stability.specs.Judge.{EachBook}

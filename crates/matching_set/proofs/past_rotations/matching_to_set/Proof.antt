@@ -1,6 +1,6 @@
 -- `matching_to_set` meets its contract: small tables are lent where they do, and otherwise large ones. Assumes nothing.
 use borrow.Author.Rules.{rules}
-use Rattle.format.specs.Laws.LongTables.{small-tables, large-tables}
+use Rattle.format.proofs.Laws.LongTables.{small-tables, large-tables}
 use Rattle.rotation_numbering.specs.Laws.Room.{small-list, large-list}
 use Rattle.matching_set.proofs.past_rotations.matching_to_set.Statement.{statement}
 use Rattle.matching_set.proofs.past_rotations.matching_to_set.Tie as tie

@@ -6,7 +6,7 @@ use native.Mathlib.Omega.{arith}
 use lib.ListN.{length}
 use borrow.Author.Rules.{rules}
 use Rattle.format.specs.Outcome.{after}
-use Rattle.format.specs.Laws.Outcome.{room-refused, room-short, room_fits}
+use Rattle.format.proofs.Laws.Outcome.{room-refused, room-short, room_fits}
 use Rattle.format.specs.Record.{Record, record_of}
 use Rattle.format.specs.Verdict.{Verdict, fine, verdict_of}
 use Rattle.matchings.specs.Matching.{check_matching}

@@ -1,5 +1,5 @@
 -- `write_for` meets its contract: small tables are lent where they do, and otherwise large ones. Assumes nothing.
-use Rattle.format.specs.Laws.LongTables.{small-tables, large-tables}
+use Rattle.format.proofs.Laws.LongTables.{small-tables, large-tables}
 use borrow.Author.Rules.{rules}
 use Rattle.move_lines.proofs.moves.write_for.Statement.{statement}
 use Rattle.move_lines.proofs.moves.write_for.Tie as tie

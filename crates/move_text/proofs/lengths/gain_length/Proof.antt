@@ -2,7 +2,7 @@
 use mathlib.Core.Path.{ap}
 use native.Mathlib.Omega.{arith}
 use lib.ListN.{length}
-use Rattle.sheets.specs.MovesLaws.{gain-above, gain-below}
+use Rattle.sheets.proofs.MovesLaws.{gain-above, gain-below}
 use borrow.Author.Rules.{rules}
 use Rattle.move_text.proofs.lengths.gain_length.Statement.{statement}
 use Rattle.move_text.proofs.lengths.gain_length.Tie as tie

@@ -6,7 +6,7 @@ use native.Mathlib.Omega.{arith}
 use lib.ListN.{length}
 use Rattle.sheets.specs.Line.{line_feed}
 use Rattle.sheet_text.specs.Laws.Put.{put_on, put_as}
-use Rattle.sheets.specs.MovesLaws.{gain-above, gain-below}
+use Rattle.sheets.proofs.MovesLaws.{gain-above, gain-below}
 use borrow.Author.Rules.{rules}
 use Rattle.move_text.proofs.moved.put_gain.Statement.{statement}
 use Rattle.move_text.proofs.moved.put_gain.Tie as tie

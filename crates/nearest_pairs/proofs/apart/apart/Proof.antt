@@ -9,7 +9,7 @@ use borrow.Author.Tests.{not-true, not-false}
 use Rattle.laws.specs.Values.{vec}
 use Rattle.format.specs.Format.{largest}
 use Rattle.format.specs.Record.{Record, lent}
-use Rattle.stable_theory.specs.Stable.Holding.{stable-same}
+use Rattle.stable_theory.proofs.Stable.Holding.{stable-same}
 use Rattle.stable_theory.specs.Repairs.Repair.{weight}
 use Rattle.instances.specs.Usable.{market_in}
 use Rattle.pushing.specs.Laws.Pushes.{weight-most}

@@ -3,7 +3,7 @@ use mathlib.Core.Path.{sym, ◌∙◌, ap}
 use native.Mathlib.Omega.{arith}
 use borrow.Author.Rules.{rules}
 use Rattle.format.specs.Verdict.{verdict_of}
-use Rattle.format.specs.Laws.Bounds.{size_few}
+use Rattle.format.proofs.Laws.Bounds.{size_few}
 use Rattle.replies.specs.Replies.{refused-reply}
 use Rattle.placement.proofs.book_calls.placement_book_size.Statement.{statement}
 use Rattle.placement.proofs.book_calls.placement_book_size.Tie as tie

@@ -6,7 +6,7 @@ use borrow.Author.Rules.{rules}
 use Rattle.format.specs.Verdict.{fine, verdict_of}
 use Rattle.format.specs.Format.{people, offset, list_length}
 use Rattle.format.specs.Person.{check_person}
-use Rattle.format.specs.Laws.Person.{person-byte}
+use Rattle.format.proofs.Laws.Person.{person-byte}
 use Rattle.replies.specs.Replies.{refused-given}
 use Rattle.placement.proofs.book_calls.placement_mentor_list.Statement.{statement}
 use Rattle.placement.proofs.book_calls.placement_mentor_list.Tie as tie

@@ -3,7 +3,7 @@ use mathlib.Core.Path.{sym, ◌∙◌, ap}
 use native.Mathlib.Omega.{arith}
 use borrow.Author.Rules.{rules}
 use Rattle.format.specs.Verdict.{verdict_of}
-use Rattle.format.specs.Writable.{fine-writable}
+use Rattle.format.proofs.Writable.{fine-writable}
 use Rattle.replies.specs.Replies.{refused-reply}
 use Rattle.placement.proofs.book_calls.placement_write_book.Statement.{statement}
 use Rattle.placement.proofs.book_calls.placement_write_book.Tie as tie

@@ -7,7 +7,7 @@ use mathlib.Core.Bool.{false}
 use native.Mathlib.Omega.{arith}
 use borrow.Author.Rules.{rules}
 use Rattle.format.specs.Outcome.{after}
-use Rattle.format.specs.Laws.Outcome.{after-refused, after-fine}
+use Rattle.format.proofs.Laws.Outcome.{after-refused, after-fine}
 use Rattle.format.specs.Record.{Record, record_of}
 use Rattle.format.specs.Verdict.{Verdict, verdict_of}
 use Rattle.rotations.specs.RotationList.{rotation_count}

@@ -4,7 +4,7 @@ use Prim.Native.Nat.{◌≤◌, ◌-◌, ◌*◌}
 use mathlib.Core.Path.{refl}
 use native.Mathlib.Omega.{arith}
 use Rattle.laws.specs.Stores.{Stores, stores-start, stores-on}
-use Rattle.format.specs.Laws.Bounds.{few-square}
+use Rattle.format.proofs.Laws.Bounds.{few-square}
 use Rattle.record.specs.Laws.Lists.{stores-end}
 use Rattle.record.proofs.lists.put_lengths.Statement.{statement}
 use Rattle.record.proofs.lists.put_lengths.Tie as tie

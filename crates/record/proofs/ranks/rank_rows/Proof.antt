@@ -5,7 +5,7 @@ use mathlib.Core.Path.{◌≡◌, refl, ◌∙◌, subst}
 use native.Mathlib.Omega.{arith}
 use lib.ListN.{length}
 use Rattle.laws.specs.Table.{row-end}
-use Rattle.format.specs.Laws.Bounds.{few-square}
+use Rattle.format.proofs.Laws.Bounds.{few-square}
 use Rattle.record.specs.Filling.{RankRows}
 use Rattle.record.specs.Laws.Rows.{row-source, row_same, row_on}
 use Rattle.record.proofs.ranks.rank_rows.Statement.{statement}

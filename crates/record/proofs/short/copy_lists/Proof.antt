@@ -5,7 +5,7 @@ use mathlib.Core.Path.{◌≡◌, refl, ◌∙◌, subst}
 use native.Mathlib.Omega.{arith}
 use lib.ListN.{length, set, length-set}
 use Rattle.laws.specs.Table.{row-end}
-use Rattle.format.specs.Laws.Bounds.{few-square}
+use Rattle.format.proofs.Laws.Bounds.{few-square}
 use Rattle.record.specs.Filling.{ListRows}
 use Rattle.record.specs.Laws.Short.{list-rows-start, side-listed, side-few, list-upto, list-row-fits, list-row-same, list-row-on}
 use Rattle.record.proofs.short.copy_lists.Statement.{statement}

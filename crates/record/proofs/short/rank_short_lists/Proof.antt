@@ -5,7 +5,7 @@ use mathlib.Core.Path.{◌≡◌, refl, ◌∙◌, subst}
 use native.Mathlib.Omega.{arith}
 use lib.ListN.{length}
 use Rattle.laws.specs.Table.{row-end}
-use Rattle.format.specs.Laws.Bounds.{few-square}
+use Rattle.format.proofs.Laws.Bounds.{few-square}
 use Rattle.record.specs.Filling.{PlaceRows}
 use Rattle.record.specs.Laws.Short.{place-rows-start, side-listed, side-few, short-source, place-row-same, place-row-on}
 use Rattle.record.proofs.short.rank_short_lists.Statement.{statement}

@@ -3,8 +3,9 @@ use mathlib.Core.Path.{refl, sym, ◌∙◌, ap}
 use native.Mathlib.Omega.{arith}
 use borrow.Author.Rules.{rules}
 use Rattle.format.specs.Verdict.{verdict_of}
-use Rattle.format.specs.Laws.Verdict.{refuses}
-use Rattle.format.specs.WellFormed.{WellFormed, fine-well-formed}
+use Rattle.format.proofs.Laws.Verdict.{refuses}
+use Rattle.format.specs.WellFormed.{WellFormed}
+use Rattle.format.proofs.WellFormed.{fine-well-formed}
 use Rattle.record.specs.Laws.Sides.{tables-room}
 use Rattle.record.specs.Laws.Recorded.{recorded-refused, recorded-fine}
 use Rattle.record.proofs.tables.load_checked.Statement.{statement}

@@ -6,7 +6,7 @@ use native.Mathlib.Omega.{arith}
 use lib.ListN.{take}
 use borrow.Author.Rules.{rules}
 use Rattle.format.specs.Format.{largest}
-use Rattle.repairs.specs.Laws.PairsWeights.{unit-request-reply, unit-request-matching, unit-request-gains}
+use Rattle.repairs.proofs.Laws.PairsWeights.{unit-request-reply, unit-request-matching, unit-request-gains}
 use Rattle.weights.specs.Laws.Ones.{ones, ones-length, ones-light-given, ones-unit}
 use Rattle.repair.specs.Laws.Requests.{answered-request}
 use Rattle.repair.proofs.calls.repair.Statement.{statement}

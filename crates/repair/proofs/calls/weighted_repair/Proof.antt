@@ -5,7 +5,7 @@ use mathlib.Core.Path.{◌∙◌, ap}
 use mathlib.Core.List.{List}
 use borrow.Author.Rules.{rules}
 use Rattle.repairs.specs.Pairs.{weighted_request_reply, weighted_request_matching, weighted_request_gains}
-use Rattle.repairs.specs.Laws.PairsWeights.{cut-request-reply, cut-request-matching, cut-request-gains}
+use Rattle.repairs.proofs.Laws.PairsWeights.{cut-request-reply, cut-request-matching, cut-request-gains}
 use Rattle.repair.specs.Laws.Requests.{answered-request}
 use Rattle.repair.proofs.calls.weighted_repair.Statement.{statement}
 use Rattle.repair.proofs.calls.weighted_repair.Tie as tie

@@ -6,7 +6,7 @@ use native.Mathlib.Omega.{arith}
 use lib.ListN.{take}
 use borrow.Author.Rules.{rules}
 use Rattle.format.specs.Format.{largest}
-use Rattle.repairs.specs.Laws.Mentor.{unit-mentor-reply, unit-mentor-matching, unit-mentor-gains}
+use Rattle.repairs.proofs.Laws.Mentor.{unit-mentor-reply, unit-mentor-matching, unit-mentor-gains}
 use Rattle.weights.specs.Laws.Ones.{ones, ones-length, ones-light-given, ones-unit}
 use Rattle.asked.specs.declared.asked.Asked.TheVariants.{Mentor}
 use Rattle.repair.specs.Laws.Requests.{answered-one, answered-pair}

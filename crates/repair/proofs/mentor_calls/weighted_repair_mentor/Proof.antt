@@ -5,7 +5,7 @@ use mathlib.Core.Path.{◌∙◌, ap}
 use mathlib.Core.List.{List}
 use borrow.Author.Rules.{rules}
 use Rattle.repairs.specs.Mentor.{weighted_mentor_reply, weighted_mentor_matching, weighted_mentor_gains}
-use Rattle.repairs.specs.Laws.Mentor.{cut-mentor-reply, cut-mentor-matching, cut-mentor-gains}
+use Rattle.repairs.proofs.Laws.Mentor.{cut-mentor-reply, cut-mentor-matching, cut-mentor-gains}
 use Rattle.asked.specs.declared.asked.Asked.TheVariants.{Mentor}
 use Rattle.repair.specs.Laws.Requests.{answered-one, answered-pair}
 use Rattle.repair.proofs.mentor_calls.weighted_repair_mentor.Statement.{statement}

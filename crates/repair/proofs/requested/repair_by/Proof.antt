@@ -1,6 +1,6 @@
 -- `repair_by` meets its contract: small tables are lent where they do, and otherwise large ones. Assumes nothing.
 use borrow.Author.Rules.{rules}
-use Rattle.format.specs.Laws.LongTables.{small-tables, large-tables}
+use Rattle.format.proofs.Laws.LongTables.{small-tables, large-tables}
 use Rattle.repair.proofs.requested.repair_by.Statement.{statement}
 use Rattle.repair.proofs.requested.repair_by.Tie as tie
 

@@ -4,7 +4,7 @@
 use mathlib.Core.Path.{◌∙◌, ap}
 use borrow.Author.Rules.{rules}
 use Rattle.format.specs.Verdict.{verdict_of}
-use Rattle.format.specs.WellFormed.{fine-well-formed}
+use Rattle.format.proofs.WellFormed.{fine-well-formed}
 use Rattle.format.specs.Record.{Record, lent}
 use Rattle.stability.specs.Judge.{EachBook}
 use Rattle.stability.specs.Laws.Judged.{from-fine}

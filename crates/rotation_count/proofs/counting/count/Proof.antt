@@ -1,6 +1,6 @@
 -- `count` meets its contract: small tables are lent where they do, and otherwise large ones. Assumes nothing.
 use borrow.Author.Rules.{rules}
-use Rattle.format.specs.Laws.LongTables.{small-tables, large-tables}
+use Rattle.format.proofs.Laws.LongTables.{small-tables, large-tables}
 use Rattle.rotation_count.proofs.counting.count.Statement.{statement}
 use Rattle.rotation_count.proofs.counting.count.Tie as tie
 

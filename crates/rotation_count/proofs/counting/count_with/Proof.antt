@@ -5,9 +5,9 @@ use borrow.Author.Rules.{rules}
 use Rattle.format.specs.Record.{Record, record_of}
 use Rattle.format.specs.Verdict.{Verdict, verdict_of}
 use Rattle.format.specs.Outcome.{after}
-use Rattle.format.specs.Laws.Outcome.{after-refused, after-fine}
-use Rattle.stable_theory.specs.Rotations.RotationAlike.{rotations-alike}
-use Rattle.matchings.specs.BookMarket.{market-proper}
+use Rattle.format.proofs.Laws.Outcome.{after-refused, after-fine}
+use Rattle.stable_theory.proofs.Rotations.RotationAlike.{rotations-alike}
+use Rattle.matchings.proofs.BookMarket.{market-proper}
 use Rattle.instances.specs.Laws.Read.{Read, record-read, read-usable}
 use Rattle.instances.specs.Laws.BookTables.{usable-alike}
 use Rattle.rotation_count.proofs.counting.count_with.Statement.{statement}

@@ -1,6 +1,6 @@
 -- `list` meets its contract: small tables are lent where they do, and otherwise large ones. Assumes nothing.
 use borrow.Author.Rules.{rules}
-use Rattle.format.specs.Laws.LongTables.{small-tables, large-tables}
+use Rattle.format.proofs.Laws.LongTables.{small-tables, large-tables}
 use Rattle.rotation_numbering.specs.Laws.Room.{small-list, large-list}
 use Rattle.rotation_list.proofs.listing.list.Statement.{statement}
 use Rattle.rotation_list.proofs.listing.list.Tie as tie

@@ -7,7 +7,7 @@ use lib.ListN.{length}
 use Rattle.format.specs.Record.{Record, record_of}
 use Rattle.format.specs.Verdict.{Verdict, verdict_of}
 use Rattle.format.specs.Outcome.{after}
-use Rattle.format.specs.Laws.Outcome.{room-refused, room-short, room_fits}
+use Rattle.format.proofs.Laws.Outcome.{room-refused, room-short, room_fits}
 use Rattle.rotations.specs.RotationList.{list_bytes}
 use Rattle.rotation_numbering.specs.Laws.Room.{list-room}
 use Rattle.instances.specs.Laws.Read.{Read, record-read, read-usable}

@@ -2,7 +2,7 @@
 use mathlib.Core.Path.{sym}
 use native.Mathlib.Omega.{arith}
 use borrow.Author.Rules.{rules}
-use Rattle.stable_theory.specs.Rotations.CycleFrom.{wrapped-inside, wrapped-past}
+use Rattle.stable_theory.proofs.Rotations.CycleFrom.{wrapped-inside, wrapped-past}
 use Rattle.rotation_notes.proofs.writing.wrap.Statement.{statement}
 use Rattle.rotation_notes.proofs.writing.wrap.Tie as tie
 

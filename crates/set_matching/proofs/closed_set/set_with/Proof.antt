@@ -24,7 +24,7 @@ use Rattle.stability.specs.Laws.Judged.{from-fine}
 use Rattle.closed_subsets.specs.Laws.SetPlaces.{places-ready}
 use Rattle.set_matching.specs.Laws.BookSets.{set_on, set-closed, set-writable, set-filled}
 use Rattle.rotations.specs.Sets.{bad_marks, closed_set, set_matching}
-use Rattle.rotations.specs.Laws.SetVerdict.{set-book, set-marks, set-open, set-short, set-fine, marks-test, marks-good}
+use Rattle.rotations.proofs.Laws.SetVerdict.{set-book, set-marks, set-open, set-short, set-fine, marks-test, marks-good}
 use Rattle.set_matching.proofs.closed_set.set_with.Statement.{statement}
 use Rattle.set_matching.proofs.closed_set.set_with.Tie as tie
 

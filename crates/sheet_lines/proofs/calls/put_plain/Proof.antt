@@ -7,7 +7,7 @@ use lib.ListN.{length, take}
 use lib.Seq.{length-take-le}
 use borrow.Author.Rules.{rules}
 use Rattle.format.specs.Format.{largest}
-use Rattle.sheets.specs.UnitWeights.{unit-sheet}
+use Rattle.sheets.proofs.UnitWeights.{unit-sheet}
 use Rattle.sheet_text.specs.Laws.Put.{put_as}
 use Rattle.sheet_answers.specs.Laws.Short.{unit-short, parts-short}
 use Rattle.weights.specs.Laws.Ones.{ones, ones-length, ones-light-given, ones-unit, ones-most}

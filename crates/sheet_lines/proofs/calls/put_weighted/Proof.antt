@@ -8,7 +8,7 @@ use lib.Seq.{length-take-le}
 use borrow.Author.Rules.{rules}
 use Rattle.format.specs.Format.{people}
 use Rattle.sheets.specs.Sheet.{weighted_sheet_for}
-use Rattle.sheets.specs.UnitWeights.{cut-sheet}
+use Rattle.sheets.proofs.UnitWeights.{cut-sheet}
 use Rattle.sheet_text.specs.Laws.Put.{put_as}
 use Rattle.sheet_answers.specs.Laws.Short.{weighted-short}
 use Rattle.sheet_lines.specs.Room.{Room}

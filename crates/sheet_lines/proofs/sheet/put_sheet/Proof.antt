@@ -1,6 +1,6 @@
 -- `put_sheet` meets its contract: small tables are lent where they do, and otherwise large ones. Assumes nothing.
 use borrow.Author.Rules.{rules}
-use Rattle.format.specs.Laws.LongTables.{small-tables, large-tables}
+use Rattle.format.proofs.Laws.LongTables.{small-tables, large-tables}
 use Rattle.sheet_lines.proofs.sheet.put_sheet.Statement.{statement}
 use Rattle.sheet_lines.proofs.sheet.put_sheet.Tie as tie
 

@@ -2,8 +2,8 @@
 use mathlib.Core.Path.{◌≡◌, sym, ◌∙◌, ap}
 use borrow.Author.Rules.{rules}
 use Rattle.format.specs.Verdict.{fine, verdict_of}
-use Rattle.format.specs.Laws.Verdict.{goes_on}
-use Rattle.repairs.specs.Laws.Request.{weights-fine, weights-17}
+use Rattle.format.proofs.Laws.Verdict.{goes_on}
+use Rattle.repairs.proofs.Laws.Request.{weights-fine, weights-17}
 use Rattle.weights.proofs.checking.check_weights.Statement.{statement}
 use Rattle.weights.proofs.checking.check_weights.Tie as tie
 

@@ -6,7 +6,7 @@ use native.Mathlib.Omega.{arith}
 use borrow.Author.Rules.{rules}
 use Rattle.format.specs.Verdict.{verdict_of}
 use Rattle.format.specs.Write.{given}
-use Rattle.format.specs.Laws.Bounds.{few-square, list-end}
+use Rattle.format.proofs.Laws.Bounds.{few-square, list-end}
 use Rattle.rows.specs.Laws.ListRules.{FineLists, lists-start, lists-on, lists-stop, lists-end}
 use Rattle.writer.specs.Laws.Given.{given-end, given_holds}
 use Rattle.writer.proofs.writer.check_given.Statement.{statement}

@@ -3,9 +3,9 @@ use mathlib.Core.Path.{sym, ◌∙◌, ap}
 use native.Mathlib.Omega.{arith}
 use borrow.Author.Tests.{lt-ltb, le-ltb}
 use Rattle.format.specs.Verdict.{verdict_of}
-use Rattle.format.specs.Laws.Verdict.{stays, goes_on}
+use Rattle.format.proofs.Laws.Verdict.{stays, goes_on}
 use Rattle.format.specs.Write.{check_write}
-use Rattle.format.specs.Laws.Bounds.{few-square}
+use Rattle.format.proofs.Laws.Bounds.{few-square}
 use borrow.Author.Rules.{rules}
 use Rattle.writer.proofs.writer.check_write.Statement.{statement}
 use Rattle.writer.proofs.writer.check_write.Tie as tie

@@ -2,7 +2,7 @@
 -- The measure is the number of pairs left. Assumes nothing.
 use Prim.Native.Nat.{◌*◌, ◌-◌}
 use native.Mathlib.Omega.{arith}
-use Rattle.format.specs.Laws.Bounds.{few-square, list-end}
+use Rattle.format.proofs.Laws.Bounds.{few-square, list-end}
 use Rattle.writer.specs.Laws.Filling.{Pairs, pairs_start, pairs-on, pairs_end}
 use Rattle.writer.proofs.writer.fill_directory.Statement.{statement}
 use Rattle.writer.proofs.writer.fill_directory.Tie as tie

@@ -3,8 +3,8 @@
 use mathlib.Core.Path.{sym, ◌∙◌, ap}
 use borrow.Author.Rules.{rules}
 use Rattle.format.specs.Verdict.{verdict_of}
-use Rattle.format.specs.Writable.{fine-writable}
-use Rattle.format.specs.Laws.Outcome.{filled-refused, filled-fine}
+use Rattle.format.proofs.Writable.{fine-writable}
+use Rattle.format.proofs.Laws.Outcome.{filled-refused, filled-fine}
 use Rattle.writer.proofs.writer.write.Statement.{statement}
 use Rattle.writer.proofs.writer.write.Tie as tie
 
