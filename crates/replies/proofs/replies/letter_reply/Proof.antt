@@ -1,7 +1,0 @@
--- `letter_reply` meets its contract: a byte is the number that it stands for. Assumes nothing.
-use borrow.Author.Rules.{rules}
-use Rattle.replies.proofs.replies.letter_reply.Statement.{statement}
-use Rattle.replies.proofs.replies.letter_reply.Tie as tie
-
-pub letter-reply-spec : {M : Type 1} → statement M
-letter-reply-spec = tie.close (tie.spec (λ c κs. search rules) (λ c. cc))

@@ -1,8 +1,0 @@
--- `put_byte` meets its contract: one store. Assumes nothing.
-use borrow.Author.Rules.{rules}
-use Rattle.sheet_text.specs.Laws.Put.{put_one}
-use Rattle.sheet_text.proofs.text.put_byte.Statement.{statement}
-use Rattle.sheet_text.proofs.text.put_byte.Tie as tie
-
-pub put-byte-spec : {M : Type 1} → statement M
-put-byte-spec = tie.close (tie.spec (λ c. search rules) (λ c. search rules) (λ c. search rules) (λ c. put_one _ _ _ c.requires))
