@@ -7,7 +7,7 @@ use format::Instance;
 
 // Weights before anything is known of the book: how many there are, and those of the men. More than the largest n are
 // too many for every book, so that one more is enough to see it. Zeros stand where there is none.
-#[derive(Drop)]
+#[derive(Clone, Copy)]
 pub struct Weights {
     pub count: usize,
     pub men: [u32; Instance::LARGEST + 1],
@@ -48,8 +48,8 @@ pub fn read_weights(weights: &[u8]) -> Weights
     ensures light { Light (take result.count result.men) }
     ensures same { take result.count result.men ≡ take (largest + 1) weights.now }
     ensures count { result.count ≡ min (largest + 1) (length weights.now) }
-    ensures count_bound { result.count ≤ length result.men }
-    ensures men_count { result.count ≡ length (take result.count result.men) }
+    ensures men_long { result.count ≤ length result.men }
+    ensures taken_length { result.count ≡ length (take result.count result.men) }
 {
     let count = least(Instance::LARGEST + 1, weights.len());
     let men = weigh_men(weights, count);
