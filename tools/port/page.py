@@ -108,6 +108,8 @@ def statement(block):
         return []
     if block.kind in ("type", "definition"):
         return block.lines
+    if not re.match(r"(?:pub )?\S+ :(?: |$)", block.head):
+        return []  # the rest of a proof, after a bracket that closes at its margin
     rows = [block.lines[0]]
     for line in block.lines[1:]:
         at = line[block.indent :]
@@ -136,8 +138,9 @@ def moved(old, crate, said):
         whole = "" if os.path.exists(f"crates/{crate}/specs/{was}") else ", all of the file"
         rows.append(f"\n`{crate}`: `specs/{was}` to `proofs/{path}`{whole}\n\n")
         for b in body:
-            count += 1
-            rows += [f"    {line}".rstrip() + "\n" for line in statement(b)]
+            said_here = statement(b)
+            count += bool(said_here)
+            rows += [f"    {line}".rstrip() + "\n" for line in said_here]
     said += rows
     return count
 
@@ -233,7 +236,7 @@ def main(argv):
         rest = []
         for key in sorted(a):
             if key not in b:
-                rest.append(f"\n`{'::'.join(key)}` is gone (above, 'Programs').\n")
+                rest.append(f"\n`{'::'.join(key)}` is gone ('What is gone').\n")
                 continue
             x, y = a[key], b[key]
             if compare.close_up(x.signature) != compare.close_up(y.signature):
@@ -259,7 +262,7 @@ def main(argv):
             if x[key][0] != y[key][0]:
                 by[y[key][0]].append("::".join(key))
         for derive, names in sorted(by.items()):
-            out.append(f"`{derive}`: " + ", ".join(f"`{n}`" for n in names) + ".\n\n")
+            out.append(f"`{' '.join(derive.split())}`: " + ", ".join(f"`{n}`" for n in names) + ".\n\n")
 
         listed, same = [], 0
         for key in sorted(a):
@@ -282,16 +285,21 @@ def main(argv):
 
         out.append("\n## Edits\n\n'same' is an edit whose file, old and new text are those of before, byte for byte; 'respelled' one that has them in today's spelling, 'other words' one of the three above. Beside it the error that refuses it, as `rt` printed it, which cuts a line at 160 characters.\n\n| Edit | Text | Refused by |\n|---|---|---|\n")
         told = refusals(argv[0])
-        count = collections.Counter()
+        count, respelled = collections.Counter(), []
         for crate in before:
             folder = f"{old}/crates/{crate}/must-fail"
             for n in sorted(os.listdir(folder)) if os.path.isdir(folder) else []:
                 kind = "same" if edit_of(read(f"{folder}/{n}")) == edit_of(read(f"crates/{crate}/must-fail/{n}")) else "respelled"
                 kind = "other words" if (crate, n) in OTHER else kind
                 count[kind] += 1
+                respelled += [(crate, n)] if kind == "respelled" else []
                 why = told.get((crate, n), "not tried")
                 why = re.sub(r"^refused, as it must be(: )?", "", why).replace("|", "\\|").replace("`", "'")
                 out.append(f"| {crate}/{n[:-5]} | {kind} | `{why}` |\n")
+        out.append("\nThe texts of those that are respelled:\n")
+        for crate, n in respelled:
+            was, now = (edit_of(read(f"{root}/crates/{crate}/must-fail/{n}")) for root in (old, "."))
+            out.append(f"\n`{crate}/{n[:-5]}`\n\n" + "".join(f"    {m} {l}\n" for m, ls in (("-", was), ("+", now)) for l in ls if not l.startswith("file:")))
         out.append(f"\n{sum(count.values())} edits, {count['respelled']} respelled, {count['other words']} in other words.\n")
 
         said = []
