@@ -7,7 +7,7 @@ use format::Instance;
 
 // Weights before anything is known of the book: how many there are, and those of the men. More than the largest n are
 // too many for every book, so that one more is enough to see it. Zeros stand where there is none.
-#[derive(Clone, Copy)]
+#[derive(Clone, Copy, Debug, PartialEq, Eq)]
 pub struct Weights {
     pub count: usize,
     pub men: [u32; Instance::LARGEST + 1],
@@ -17,28 +17,19 @@ pub struct Weights {
 pub fn least(a: usize, b: usize) -> usize
     ensures { result ≡ min a b }
 {
-    if a < b { a } else { b }
-}
-
-// A weight as a number.
-fn weight(x: u8) -> u32
-    ensures answer { result ≡ x }
-    ensures bound { result < 256 }
-{
-    x as u32
+    a.min(b)
 }
 
 // The first `count` weights as numbers.
+#[tactic(auto, using(crate::specs::Laws::Reading::men_on))]
 fn weigh_men(weights: &[u8], count: usize) -> [u32; Instance::LARGEST + 1]
     requires weights_long { count ≤ length weights.now }
     requires count_bound { count ≤ largest + 1 }
     ensures { MenWeighed weights.now count result }
 {
     let mut men = [0u32; Instance::LARGEST + 1];
-    let mut i = 0;
-    while i < count {
-        men[i] = weight(weights[i]);
-        i += 1;
+    for (i, &weight) in weights[..count].iter().enumerate() {
+        men[i] = u32::from(weight);
     }
     men
 }
@@ -51,7 +42,9 @@ pub fn read_weights(weights: &[u8]) -> Weights
     ensures men_long { result.count ≤ length result.men }
     ensures taken_length { result.count ≡ length (take result.count result.men) }
 {
-    let count = least(Instance::LARGEST + 1, weights.len());
-    let men = weigh_men(weights, count);
-    Weights { count, men }
+    let count = weights.len().min(Instance::LARGEST + 1);
+    Weights {
+        count,
+        men: weigh_men(weights, count),
+    }
 }
