@@ -4,67 +4,67 @@ use Rattle.format.specs.declared.refusal.Refusal.{Refusal}
 use Rattle.format.specs.declared.refusal.Refusal.TheVariants.{Short, Edition, Crowd, Overlong, Directory, Stranger, Repeat, Length, Clash, Unstable, Unknown, Apart, Request, Room, Marks, Open, Weights, OneSided, Unlisted}
 
 -- The number of a rule in document 01's table
-abbrev pub number_of : Refusal → ℕ
-number_of (Short given) = 1
-number_of Edition = 2
-number_of Crowd = 3
-number_of (Overlong size) = 4
-number_of (Directory at) = 5
-number_of (Stranger at) = 6
-number_of (Repeat at) = 7
-number_of Length = 8
-number_of (Clash at) = 9
-number_of (Unstable man woman) = 10
-number_of Unknown = 11
-number_of Apart = 12
-number_of Request = 13
-number_of Room = 14
-number_of Marks = 15
-number_of Open = 16
-number_of Weights = 17
-number_of OneSided = 18
-number_of Unlisted = 19
+abbrev pub rule_number : Refusal → ℕ
+rule_number (Short given) = 1
+rule_number Edition = 2
+rule_number Crowd = 3
+rule_number (Overlong size) = 4
+rule_number (Directory at) = 5
+rule_number (Stranger at) = 6
+rule_number (Repeat at) = 7
+rule_number Length = 8
+rule_number (Clash at) = 9
+rule_number (Unstable man woman) = 10
+rule_number Unknown = 11
+rule_number Apart = 12
+rule_number Request = 13
+rule_number Room = 14
+rule_number Marks = 15
+rule_number Open = 16
+rule_number Weights = 17
+rule_number OneSided = 18
+rule_number Unlisted = 19
 
 -- The place given: 1 for rule 3, and 0 where a rule has none
-abbrev pub place_of : Refusal → ℕ
-place_of (Short given) = given
-place_of Edition = 0
-place_of Crowd = 1
-place_of (Overlong size) = size
-place_of (Directory at) = at
-place_of (Stranger at) = at
-place_of (Repeat at) = at
-place_of Length = 0
-place_of (Clash at) = at
-place_of (Unstable man woman) = man.0
-place_of Unknown = 0
-place_of Apart = 0
-place_of Request = 0
-place_of Room = 0
-place_of Marks = 0
-place_of Open = 0
-place_of Weights = 0
-place_of OneSided = 0
-place_of Unlisted = 0
+abbrev pub rule_place : Refusal → ℕ
+rule_place (Short given) = given
+rule_place Edition = 0
+rule_place Crowd = 1
+rule_place (Overlong size) = size
+rule_place (Directory at) = at
+rule_place (Stranger at) = at
+rule_place (Repeat at) = at
+rule_place Length = 0
+rule_place (Clash at) = at
+rule_place (Unstable man woman) = man.0
+rule_place Unknown = 0
+rule_place Apart = 0
+rule_place Request = 0
+rule_place Room = 0
+rule_place Marks = 0
+rule_place Open = 0
+rule_place Weights = 0
+rule_place OneSided = 0
+rule_place Unlisted = 0
 
 -- The second place, which rule 10 alone has
-abbrev pub second_of : Refusal → ℕ
-second_of (Short given) = 0
-second_of Edition = 0
-second_of Crowd = 0
-second_of (Overlong size) = 0
-second_of (Directory at) = 0
-second_of (Stranger at) = 0
-second_of (Repeat at) = 0
-second_of Length = 0
-second_of (Clash at) = 0
-second_of (Unstable man woman) = woman.0
-second_of Unknown = 0
-second_of Apart = 0
-second_of Request = 0
-second_of Room = 0
-second_of Marks = 0
-second_of Open = 0
-second_of Weights = 0
-second_of OneSided = 0
-second_of Unlisted = 0
+abbrev pub rule_second : Refusal → ℕ
+rule_second (Short given) = 0
+rule_second Edition = 0
+rule_second Crowd = 0
+rule_second (Overlong size) = 0
+rule_second (Directory at) = 0
+rule_second (Stranger at) = 0
+rule_second (Repeat at) = 0
+rule_second Length = 0
+rule_second (Clash at) = 0
+rule_second (Unstable man woman) = woman.0
+rule_second Unknown = 0
+rule_second Apart = 0
+rule_second Request = 0
+rule_second Room = 0
+rule_second Marks = 0
+rule_second Open = 0
+rule_second Weights = 0
+rule_second OneSided = 0
+rule_second Unlisted = 0

@@ -50,11 +50,11 @@ pub enum Refusal {
 pub type Checked = Result<(), Refusal>;
 
 impl Refusal {
-    ghost use Rattle.format.specs.Refusal.{number_of, place_of, second_of};
+    ghost use Rattle.format.specs.Refusal.{rule_number, rule_place, rule_second};
 
     /// The number of the rule in the table.
     pub fn number(self) -> u8
-        ensures { result ≡ number_of self }
+        ensures { result ≡ rule_number self }
     {
         match self {
             Refusal::Short { .. } => 1,
@@ -81,7 +81,7 @@ impl Refusal {
 
     /// The place given, 0 where the rule has none.
     pub fn place(self) -> usize
-        ensures { result ≡ place_of self }
+        ensures { result ≡ rule_place self }
     {
         match self {
             Refusal::Short { given } => given,
@@ -98,7 +98,7 @@ impl Refusal {
 
     /// The second place: the woman of a blocking pair, and otherwise 0.
     pub fn second(self) -> usize
-        ensures { result ≡ second_of self }
+        ensures { result ≡ rule_second self }
     {
         match self {
             Refusal::Unstable { woman, .. } => woman.into(),

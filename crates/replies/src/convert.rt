@@ -1,0 +1,161 @@
+//! The answers of the crates below as replies.
+ghost use Rattle.std.specs.Prelude.{◌≡◌};
+ghost use Rattle.replies.specs.Replies.{lettered, two_letters};
+
+use crate::reply::{NO_GRADE, Reply};
+use format::Refusal;
+use repairs::{Answer, PairsAnswer, RequestAnswer};
+
+impl From<Refusal> for Reply {
+    ghost use Rattle.format.specs.Refusal.{rule_number, rule_place, rule_second};
+    ghost use Rattle.replies.specs.Replies.{denied};
+
+    ghost from_gives = { λ refusal r. r ≡ denied (rule_number refusal) (rule_place refusal) (rule_second refusal) };
+
+    /// A broken rule, with its places.
+    fn from(refusal: Refusal) -> Reply {
+        Reply {
+            number: usize::from(refusal.number()),
+            place: refusal.place(),
+            second: refusal.second(),
+            letter: 0,
+            value: 0,
+        }
+    }
+}
+
+impl From<Answer> for Reply {
+    ghost use Rattle.repairs.specs.Repair.{repair_answer};
+    ghost use Rattle.replies.specs.Replies.{letter_for};
+
+    ghost from_gives = { λ answer r. r ≡ letter_for (repair_answer answer) };
+
+    /// The letter of a repair and its distance, 0 where the pair is fixed.
+    fn from(answer: Answer) -> Reply {
+        match answer {
+            Answer::Up(repair) => letter(b'U', repair.distance),
+            Answer::Down(repair) => letter(b'D', repair.distance),
+            Answer::Fixed => letter(b'F', 0),
+        }
+    }
+}
+
+impl From<PairsAnswer> for Reply {
+    ghost use Rattle.repairs.specs.Pairs.{pairs_answer};
+    ghost use Rattle.replies.specs.Replies.{two_letters_for};
+
+    ghost from_gives = { λ answer r. r ≡ two_letters_for (pairs_answer answer) };
+
+    /// The letters of a repair of two pairs and its distance.
+    fn from(answer: PairsAnswer) -> Reply {
+        match answer {
+            PairsAnswer::UpUp(repair) => letters(b'U', b'U', repair.distance),
+            PairsAnswer::UpDown(repair) => letters(b'U', b'D', repair.distance),
+            PairsAnswer::DownUp(repair) => letters(b'D', b'U', repair.distance),
+            PairsAnswer::DownDown(repair) => letters(b'D', b'D', repair.distance),
+            PairsAnswer::Fixed => letter(b'F', 0),
+        }
+    }
+}
+
+impl From<RequestAnswer> for Reply {
+    ghost use Rattle.repairs.specs.Pairs.{request_answer};
+    ghost use Rattle.replies.specs.Replies.{request_letters_for};
+
+    ghost from_gives = { λ answer r. r ≡ request_letters_for (request_answer answer) };
+
+    /// The reply for one pair, or for two.
+    fn from(answer: RequestAnswer) -> Reply {
+        match answer {
+            RequestAnswer::Pair(one) => one.into(),
+            RequestAnswer::Pairs(two) => two.into(),
+        }
+    }
+}
+
+impl From<Result<Answer, Refusal>> for Reply {
+    ghost use Rattle.repairs.specs.Repair.{repair_outcome};
+    ghost use Rattle.replies.specs.Replies.{letter_reply};
+
+    ghost from_gives = { λ answer r. r ≡ letter_reply (repair_outcome answer) };
+
+    fn from(answer: Result<Answer, Refusal>) -> Reply {
+        match answer {
+            Ok(repair) => repair.into(),
+            Err(refusal) => refusal.into(),
+        }
+    }
+}
+
+impl From<Result<RequestAnswer, Refusal>> for Reply {
+    ghost use Rattle.repairs.specs.Pairs.{request_outcome};
+    ghost use Rattle.replies.specs.Replies.{request_letters};
+
+    ghost from_gives = { λ answer r. r ≡ request_letters (request_outcome answer) };
+
+    fn from(answer: Result<RequestAnswer, Refusal>) -> Reply {
+        match answer {
+            Ok(repair) => repair.into(),
+            Err(refusal) => refusal.into(),
+        }
+    }
+}
+
+impl From<Result<Option<usize>, Refusal>> for Reply {
+    ghost use Rattle.repairs.specs.Grade.{grade_outcome};
+    ghost use Rattle.replies.specs.Replies.{graded_reply};
+
+    ghost from_gives = { λ graded r. r ≡ graded_reply (grade_outcome graded) };
+
+    /// The reply for a grade: its number, or `NO_GRADE` where no pair can be repaired.
+    fn from(graded: Result<Option<usize>, Refusal>) -> Reply {
+        match graded {
+            Ok(grade) => Reply::granted(0, grade.unwrap_or(NO_GRADE)),
+            Err(refusal) => refusal.into(),
+        }
+    }
+}
+
+impl From<Result<usize, Refusal>> for Reply {
+    ghost use Rattle.format.specs.Outcome.{count_outcome};
+    ghost use Rattle.replies.specs.Replies.{number_reply};
+
+    ghost from_gives = { λ counted r. r ≡ number_reply (count_outcome counted) };
+
+    /// The reply for a number, of rotations or of bytes.
+    fn from(counted: Result<usize, Refusal>) -> Reply {
+        match counted {
+            Ok(count) => Reply::granted(0, count),
+            Err(refusal) => refusal.into(),
+        }
+    }
+}
+
+impl From<Result<bool, Refusal>> for Reply {
+    ghost use Rattle.rotations.specs.Precedence.{precedence_outcome};
+    ghost use Rattle.replies.specs.Replies.{yes_no_reply};
+
+    ghost from_gives = { λ answer r. r ≡ yes_no_reply (precedence_outcome answer) };
+
+    /// The reply for yes or no: 1 or 0.
+    fn from(answer: Result<bool, Refusal>) -> Reply {
+        match answer {
+            Ok(yes) => Reply::granted(0, usize::from(yes)),
+            Err(refusal) => refusal.into(),
+        }
+    }
+}
+
+/// One letter, and a distance.
+fn letter(letter: u8, distance: usize) -> Reply
+    ensures { result ≡ lettered letter distance }
+{
+    Reply::lettered(usize::from(letter), distance)
+}
+
+/// Two letters, the first in the low byte, and a distance.
+fn letters(first: u8, second: u8, distance: usize) -> Reply
+    ensures { result ≡ lettered (two_letters first second) distance }
+{
+    Reply::lettered(usize::from(first) + 256 * usize::from(second), distance)
+}
