@@ -1,10 +1,10 @@
-// Which of two repairs of a pair is the answer, by how far they are.
+//! Which of two repairs of a pair is the answer, by how far they are.
 ghost use Rattle.std.specs.Prelude.{◌≡◌};
 ghost use Rattle.nearest.specs.Nearest.{nearer};
 
 use crate::answer::{Letter, NO_REPAIR};
 
-// The nearer of the repair up and the repair down, up where both are as near; fixed where there is neither.
+/// The nearer of the repair up and the repair down, up where both are as near; fixed where there is neither.
 pub fn nearer(above: u32, below: u32) -> Letter
     ensures { result ≡ nearer above below }
 {
