@@ -2,7 +2,8 @@
 ghost use Rattle.std.specs.Prelude.{◌≡◌};
 ghost use Rattle.nearest.specs.Nearest.{nearer};
 
-use crate::answer::{Letter, NO_REPAIR};
+use crate::answer::NO_REPAIR;
+use repairs::Letter;
 
 /// The nearer of the repair up and the repair down, up where both are as near; fixed where there is neither.
 pub fn nearer(above: u32, below: u32) -> Letter

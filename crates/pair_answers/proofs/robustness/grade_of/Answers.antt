@@ -1,10 +1,14 @@
 -- `grade_of` meets its contract: a letter of the first n that is of a repair is one that passes the test of the
 -- definition.
-use Rattle.std.proofs.Common.{ℕ, zero, suc, ◌≤◌, ◌≡◌, refl, sym, ◌∙◌, ap, arith, add-one, Bool, true, false, ◌||◌, List, length, take, get_or}
+use Rattle.std.proofs.Common.{ℕ, zero, suc, ◌≤◌, ◌≡◌, refl, sym, ◌∙◌, ap, arith, add-one, Bool, true, false, not, eqb, ◌||◌, List, length, take, get_or}
 use Rattle.std.specs.List.{list_any}
 use Rattle.std.proofs.lemmas.List.Folds.{list_any_more}
 use Rattle.laws.specs.Choice.{either}
-use Rattle.laws.specs.First.{some, some_more}
+use Rattle.laws.specs.First.{some, some_more, some-cong}
+use Rattle.repairs.specs.declared.letter.Letter.{Letter}
+use Rattle.repairs.specs.declared.letter.Letter.TheVariants.{Up, Down, Fixed}
+use Rattle.repairs.specs.Letter.{letter_code, is_repair}
+use Rattle.pair_answers.specs.Answered.{some_repair}
 use Rattle.pair_answers.specs.Laws.Answered.{grade-some, grade-none}
 use Rattle.pair_answers.proofs.robustness.grade_of.Goals as goal
 
@@ -24,12 +28,24 @@ any-some p d l (suc n) h =
     ∙ sym (some_more (λ s. p (get_or l s d)) n)
     ∙ ap (some (λ s. p (get_or l s d))) (add-one n)
 
+-- a letter is that of a repair where its byte is not F
+repair-code : (l : Letter) → is_repair l ≡ not (eqb (letter_code l) 70)
+repair-code Up = refl
+repair-code Down = refl
+repair-code Fixed = refl
+
+-- so what the code finds is what the definition says
+found : (letters : List Letter) (n : ℕ) {b : Bool} → b ≡ list_any is_repair (take n letters) → n ≤ length letters →
+    b ≡ some_repair n letters
+found letters n e h =
+    e ∙ any-some is_repair Up letters n h ∙ some-cong {k = n} (λ s u. repair-code (get_or letters s Up))
+
 pub returns-then-some_repair : goal.returns-then-some_repair
 returns-then-some_repair c =
-    grade-some (c.some_repair.ensures ∙ any-some _ 0 c.args.letters.now c.args.n c.requires.letters_long)
+    grade-some (found c.args.letters.now c.args.n c.some_repair.ensures c.requires.letters_long)
     c.if-some_repair.true c.largest_cost.ensures
 
 pub returns-else-some_repair : goal.returns-else-some_repair
 returns-else-some_repair c =
-    grade-none (c.some_repair.ensures ∙ any-some _ 0 c.args.letters.now c.args.n c.requires.letters_long)
+    grade-none (found c.args.letters.now c.args.n c.some_repair.ensures c.requires.letters_long)
     c.if-some_repair.false _
