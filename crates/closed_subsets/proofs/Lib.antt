@@ -1,0 +1,2 @@
+-- What the proofs of closed subsets share. Assumes nothing.
+pub mod Marks
