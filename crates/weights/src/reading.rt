@@ -13,13 +13,6 @@ pub struct Weights {
     pub men: [u32; Instance::LARGEST + 1],
 }
 
-/// The lesser of two numbers.
-pub fn least(a: usize, b: usize) -> usize
-    ensures { result ≡ min a b }
-{
-    a.min(b)
-}
-
 /// The first `count` weights as numbers.
 #[tactic(auto, using(crate::specs::Laws::Reading::men_on))]
 fn weigh_men(weights: &[u8], count: usize) -> [u32; Instance::LARGEST + 1]
