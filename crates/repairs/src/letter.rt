@@ -10,7 +10,7 @@ pub enum Letter {
     Fixed,
 }
 
-// The byte that stands for the letter in a sheet.
+/// The byte that stands for the letter in a sheet.
 impl From<Letter> for u8 {
     ghost from_gives = { λ letter code. code ≡ letter_code letter };
 
