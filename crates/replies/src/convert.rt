@@ -5,6 +5,7 @@ ghost use Rattle.replies.specs.Replies.{lettered, two_letters};
 use crate::reply::{NO_GRADE, Reply};
 use format::Refusal;
 use repairs::{Answer, PairsAnswer, RequestAnswer};
+use rows::{rule_number, rule_place, rule_second};
 
 impl From<Refusal> for Reply {
     ghost use Rattle.format.specs.Refusal.{rule_number, rule_place, rule_second};
@@ -15,9 +16,9 @@ impl From<Refusal> for Reply {
     /// A broken rule, with its places.
     fn from(refusal: Refusal) -> Reply {
         Reply {
-            number: usize::from(refusal.number()),
-            place: refusal.place(),
-            second: refusal.second(),
+            number: usize::from(rule_number(refusal)),
+            place: rule_place(refusal),
+            second: rule_second(refusal),
             letter: 0,
             value: 0,
         }
