@@ -1,5 +1,5 @@
 //! The answers of the crates below as replies.
-ghost use Rattle.std.specs.Prelude.{◌≡◌};
+ghost use Rattle.std.specs.Prelude.{◌≡◌, MatchResult};
 ghost use Rattle.replies.specs.Replies.{lettered, two_letters};
 
 use crate::reply::{NO_GRADE, Reply};
@@ -74,74 +74,48 @@ impl From<RequestAnswer> for Reply {
     }
 }
 
-impl From<Result<Answer, Refusal>> for Reply {
-    ghost use Rattle.repairs.specs.Repair.{repair_outcome};
-    ghost use Rattle.replies.specs.Replies.{letter_reply};
+impl From<Option<usize>> for Reply {
+    ghost use Rattle.repairs.specs.Grade.{grade_answer};
+    ghost use Rattle.replies.specs.Replies.{granted, grade_value};
 
-    ghost from_gives = { λ answer r. r ≡ letter_reply (repair_outcome answer) };
+    ghost from_gives = { λ grade r. r ≡ granted 0 (grade_value (grade_answer grade)) };
 
-    fn from(answer: Result<Answer, Refusal>) -> Reply {
+    /// A grade: its number, or `NO_GRADE` where no pair can be repaired.
+    fn from(grade: Option<usize>) -> Reply {
+        Reply::granted(0, grade.unwrap_or(NO_GRADE))
+    }
+}
+
+impl From<usize> for Reply {
+    ghost use Rattle.replies.specs.Replies.{granted};
+
+    ghost from_gives = { λ count r. r ≡ granted 0 count };
+
+    /// A number, of rotations or of bytes.
+    fn from(count: usize) -> Reply {
+        Reply::granted(0, count)
+    }
+}
+
+impl From<bool> for Reply {
+    ghost use Rattle.laws.specs.Choice.{pick};
+    ghost use Rattle.replies.specs.Replies.{granted};
+
+    ghost from_gives = { λ yes r. r ≡ granted 0 (pick yes 1 0) };
+
+    /// Yes or no: 1 or 0.
+    fn from(yes: bool) -> Reply {
+        Reply::granted(0, usize::from(yes))
+    }
+}
+
+impl<T: Into<Reply>, E: Into<Reply>> From<Result<T, E>> for Reply {
+    ghost from_gives = { λ answer r. MatchResult answer (λ x. T.Into.converts x r) (λ e. E.Into.converts e r) };
+
+    /// What is answered, or what is refused, each with its own reply.
+    fn from(answer: Result<T, E>) -> Reply {
         match answer {
-            Ok(repair) => repair.into(),
-            Err(refusal) => refusal.into(),
-        }
-    }
-}
-
-impl From<Result<RequestAnswer, Refusal>> for Reply {
-    ghost use Rattle.repairs.specs.Pairs.{request_outcome};
-    ghost use Rattle.replies.specs.Replies.{request_letters};
-
-    ghost from_gives = { λ answer r. r ≡ request_letters (request_outcome answer) };
-
-    fn from(answer: Result<RequestAnswer, Refusal>) -> Reply {
-        match answer {
-            Ok(repair) => repair.into(),
-            Err(refusal) => refusal.into(),
-        }
-    }
-}
-
-impl From<Result<Option<usize>, Refusal>> for Reply {
-    ghost use Rattle.repairs.specs.Grade.{grade_outcome};
-    ghost use Rattle.replies.specs.Replies.{graded_reply};
-
-    ghost from_gives = { λ graded r. r ≡ graded_reply (grade_outcome graded) };
-
-    /// The reply for a grade: its number, or `NO_GRADE` where no pair can be repaired.
-    fn from(graded: Result<Option<usize>, Refusal>) -> Reply {
-        match graded {
-            Ok(grade) => Reply::granted(0, grade.unwrap_or(NO_GRADE)),
-            Err(refusal) => refusal.into(),
-        }
-    }
-}
-
-impl From<Result<usize, Refusal>> for Reply {
-    ghost use Rattle.format.specs.Outcome.{count_outcome};
-    ghost use Rattle.replies.specs.Replies.{number_reply};
-
-    ghost from_gives = { λ counted r. r ≡ number_reply (count_outcome counted) };
-
-    /// The reply for a number, of rotations or of bytes.
-    fn from(counted: Result<usize, Refusal>) -> Reply {
-        match counted {
-            Ok(count) => Reply::granted(0, count),
-            Err(refusal) => refusal.into(),
-        }
-    }
-}
-
-impl From<Result<bool, Refusal>> for Reply {
-    ghost use Rattle.rotations.specs.Precedence.{precedence_outcome};
-    ghost use Rattle.replies.specs.Replies.{yes_no_reply};
-
-    ghost from_gives = { λ answer r. r ≡ yes_no_reply (precedence_outcome answer) };
-
-    /// The reply for yes or no: 1 or 0.
-    fn from(answer: Result<bool, Refusal>) -> Reply {
-        match answer {
-            Ok(yes) => Reply::granted(0, usize::from(yes)),
+            Ok(value) => value.into(),
             Err(refusal) => refusal.into(),
         }
     }
