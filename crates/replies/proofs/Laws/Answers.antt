@@ -1,5 +1,5 @@
--- The reply that the code makes of an answer or of a check, where what is refused is a rule of the table: that which the
--- definitions give. Assumes nothing.
+-- The reply that the code makes of an answer or of a check, where what is refused is a rule of the table: the one that
+-- the definitions give. Assumes nothing.
 use Rattle.std.specs.Prelude.{ℕ, ◌≡◌, Bool, Option, Result, Ok, Err, MatchResult}
 use Rattle.laws.specs.Choice.{pick}
 use Rattle.format.specs.declared.refusal.Refusal.{Refusal}
