@@ -5,7 +5,8 @@
  * byte i is the mentor of student i, or, in edition 2 alone, PLACEMENT_NOBODY where he has none. Weights are n bytes:
  * byte i is the weight of student i, 0 to 255. A byte slice is passed as a pointer and a length; a null pointer goes
  * with length 0 only. Result buffers may not overlap each other or an input. No function keeps a pointer, allocates, or
- * touches anything but the memory that it is lent and the stack.
+ * touches anything but the memory that it is lent and the stack. The archive needs C's memcpy and memset, and no other
+ * function from outside.
  *
  * A pair blocks a matching if each lists the other and each is alone or prefers the other; a matching of pairs that
  * list each other is stable if none does. Who has a partner is the same in every stable matching of a book. Every
