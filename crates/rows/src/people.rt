@@ -1,13 +1,10 @@
-//! What a person of either side says: the number, and of which side a partner is.
+//! What a person of either side says: the number, and who is of the other side.
 ghost use Rattle.std.specs.Prelude.{◌≡◌, ℕ, refl};
 
 use format::{Man, Woman};
 
 /// A person of one of the two sides, by number.
 pub trait Person: Copy {
-    /// A person of the other side.
-    type Other;
-
     ghost number: { Self → ℕ };
 
     ghost numbered: { ℕ → Self };
@@ -20,16 +17,20 @@ pub trait Person: Copy {
     fn numbered(byte: u8) -> Self
         ensures { result ≡ numbered byte };
 
-    /// The person's number, for an index of a table.
-    fn index(self) -> usize
-        ensures { result ≡ number self };
-
     ghost inverse: { (n : ℕ) → number (numbered n) ≡ n };
 }
 
-impl Person for Man {
-    type Other = Woman;
+/// A person in a matching, whose partners are of the other side.
+pub trait Agent: Person {
+    /// A person of the other side.
+    type Other;
 
+    /// The person's number, for an index of a table.
+    fn index(self) -> usize
+        ensures { result ≡ Self.number self };
+}
+
+impl Person for Man {
     ghost number = { λ m. m.0 };
 
     ghost numbered = { λ n. record { 0 = n } };
@@ -44,6 +45,10 @@ impl Person for Man {
     fn numbered(byte: u8) -> Man {
         Man(byte)
     }
+}
+
+impl Agent for Man {
+    type Other = Woman;
 
     fn index(self) -> usize {
         let Man(man) = self;
@@ -52,8 +57,6 @@ impl Person for Man {
 }
 
 impl Person for Woman {
-    type Other = Man;
-
     ghost number = { λ w. w.0 };
 
     ghost numbered = { λ n. record { 0 = n } };
@@ -68,6 +71,10 @@ impl Person for Woman {
     fn numbered(byte: u8) -> Woman {
         Woman(byte)
     }
+}
+
+impl Agent for Woman {
+    type Other = Man;
 
     fn index(self) -> usize {
         let Woman(woman) = self;
